@@ -81,7 +81,7 @@ same_bytes (b ∷ bs) [] = false
 same_bytes (b ∷ bs) (c ∷ cs) = (b == c) && same_bytes bs cs
 
 -- the queried target of this name
-abbrev pub named_bit : List ℕ → Option Target
+unfoldable pub named_bit : List ℕ → Option Target
 named_bit text = find (λ target. same_bytes (name target) text) queried_targets
 
 -- what stands before the newline, where that is the last byte and the only newline
@@ -111,14 +111,14 @@ abbrev pub assigned_in : List ℕ → Option Target
 assigned_in text = find (λ target. is_some (value_given target text)) assigned_targets
 
 -- what the text of a line says
-abbrev pub said_in : List ℕ → Said
+unfoldable pub said_in : List ℕ → Said
 said_in text =
     option_map_or (λ target. Query target)
     (queried_in text)
     (option_map_or (λ target. Assign target (unwrap_or (value_given target text) [])) (assigned_in text) (Bad refusals.MalformedCommand))
 
 -- what the bytes of a command say
-abbrev pub command_of : List ℕ → Said
+unfoldable pub command_of : List ℕ → Said
 command_of bytes = option_map_or said_in (line_text bytes) (Bad refusals.MalformedCommand)
 
 -- the command has its target as it is written
@@ -132,3 +132,13 @@ Means (commands.Assign text given) (Bad refusal) = ⊥
 Means (commands.Bad found) (Query target) = ⊥
 Means (commands.Bad found) (Assign target value) = ⊥
 Means (commands.Bad found) (Bad refusal) = found ≡ refusal
+
+-- The target that the command's text names is the one that is said, and there is one.
+abbrev pub Settles : Command → Said → Type 0
+Settles (commands.Query text) said =
+    ((target : Target) → IsTarget target → text.now ≡ name target → (said ≡ Query target) × IsTrue (is_queried target))
+    × (¬ ((target : Target) → IsTarget target → text.now ≢ name target))
+Settles (commands.Assign text given) said =
+    ((target : Target) → IsTarget target → text.now ≡ name target → (said ≡ Assign target given.now) × (is_queried target ≡ false))
+    × (¬ ((target : Target) → IsTarget target → text.now ≢ name target))
+Settles (commands.Bad found) said = said ≡ Bad found

@@ -5,5 +5,8 @@
 mod commands;
 mod targets;
 
-pub use commands::Command;
-pub use targets::Target;
+pub use commands::{Command, commands_by_example, commands_have_one_meaning, parse};
+pub use targets::{Target, bit_named, target_named};
+
+#[cfg(test)]
+mod tests;

@@ -1,1 +1,4 @@
+pub mod Adapters
+pub mod Counts
+pub mod Fakes
 pub mod Ports

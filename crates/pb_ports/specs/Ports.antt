@@ -1,6 +1,6 @@
 -- What a call on the outside world does to the bytes that a source has left, or that a sink holds,
 -- where these bytes are told, and to the count of its faults.
-use Rattle.std.specs.Prelude.{◌≡◌, ℕ, ◌-◌, ◌^◌, ◌<◌, ◌≤◌, ◌⊎◌, List, [], ◌∷◌, ◌++◌, length, take, Option, Some, None, Result, Ok, Err}
+use Rattle.std.specs.Prelude.{◌≡◌, ℕ, ◌-◌, ◌^◌, ◌<◌, ◌≤◌, ◌⊎◌, List, [], ◌++◌, length, take, Option, Some, None, Result, Ok, Err}
 use Rattle.pb_ports.specs.declared.sources.Read.{Read}
 use Rattle.pb_ports.specs.declared.sources.Read.TheVariants as reads
 use Rattle.pb_ports.specs.declared.sinks.Failed.{Failed}

@@ -1,2 +1,5 @@
 pub mod Numbers
 pub mod Refusals
+pub mod Signed
+pub mod Decimals
+pub mod Hex

@@ -4,13 +4,29 @@
 #![tactic(auto)]
 
 mod counting;
+mod decimals;
+mod hex;
+mod lines;
 mod memory;
 mod numbers;
 mod refusals;
+mod signed;
 mod texts;
 
 pub use counting::Steps;
+pub use decimals::{
+    Decimal9, canonical_decimals_are_read_back, decimals_are_read_in_one_way, read_decimal,
+    read_decimal_up_to, whole_numbers_are_canonical, write_decimal,
+};
+pub use hex::write_hex32;
 pub use memory::OutOfMemory;
-pub use numbers::{NumFault, decimals_are_read_back, read_tick, read_u32, write_u64};
+pub use numbers::{
+    NumFault, decimals_are_read_back, put_front, read_tick, read_u32, read_u48, read_uint,
+    write_u64,
+};
 pub use refusals::Refusal;
+pub use signed::{ints_are_read_in_one_way, read_i32, signed_decimals_are_read_back, write_i64};
 pub use texts::Text;
+
+#[cfg(test)]
+mod tests;

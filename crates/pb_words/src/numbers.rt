@@ -1,5 +1,5 @@
-ghost use Rattle.std.specs.Prelude.{◌≡◌, ℕ, ◌+◌, ◌-◌, ◌^◌, ◌<◌, ◌≤◌, ◌++◌, ◌↔◌, length, drop, decimal, IsTrue};
-ghost use Rattle.pb_words.specs.Numbers.{IsUint, ReadsUint, WritesNumber};
+ghost use Rattle.std.specs.Prelude.{◌≡◌, ℕ, ◌+◌, ◌-◌, ◌^◌, ◌<◌, ◌≤◌, ◌++◌, ◌↔◌, length, drop, decimal, IsTrue, All};
+ghost use Rattle.pb_words.specs.Numbers.{IsDigit, IsUint, ReadsUint, WritesNumber};
 
 use itoa::Buffer;
 
@@ -22,6 +22,13 @@ pub fn read_u32(text: &[u8]) -> Result<u32, NumFault>
     Ok(n as u32)
 }
 
+/// Reads one or more digits as a number of 48 bits.
+pub fn read_u48(text: &[u8]) -> Result<u64, NumFault>
+    ensures { ReadsUint (2 ^ 48 - 1) text.now result }
+{
+    read_uint(text, 0xffff_ffff_ffff)
+}
+
 /// Reads one or more digits as a tick, which is below 2^62.
 pub fn read_tick(text: &[u8]) -> Result<u64, NumFault>
     ensures { ReadsUint (2 ^ 62 - 1) text.now result }
@@ -39,7 +46,8 @@ pub fn write_u64(value: u64, out: &mut [u8]) -> usize
     put_front(buffer.format(value).as_bytes(), out)
 }
 
-fn put_front(text: &[u8], out: &mut [u8]) -> usize
+/// Writes the text at the front of `out`, and answers its length.
+pub fn put_front(text: &[u8], out: &mut [u8]) -> usize
     requires { length text.now ≤ length out.old }
     ensures len { result ≡ length text.now }
     ensures written { out.new ≡ text.now ++ drop (length text.now) out.old }
@@ -49,8 +57,9 @@ fn put_front(text: &[u8], out: &mut [u8]) -> usize
     n
 }
 
+/// Reads one or more digits as a number up to the limit.
 #[tactic(auto, using(crate::proofs::NumberLemmas::reading))]
-fn read_uint(text: &[u8], limit: u64) -> Result<u64, NumFault>
+pub fn read_uint(text: &[u8], limit: u64) -> Result<u64, NumFault>
     requires { 9 ≤ limit }
     ensures { ReadsUint limit text.now result }
 {
@@ -71,7 +80,13 @@ fn read_uint(text: &[u8], limit: u64) -> Result<u64, NumFault>
 fn is_uint(text: &[u8]) -> bool
     ensures { IsTrue result ↔ IsUint text.now }
 {
-    !text.is_empty() && text.iter().all(|b| b'0' <= *b && *b <= b'9')
+    !text.is_empty() && are_digits(text)
+}
+
+pub fn are_digits(text: &[u8]) -> bool
+    ensures { IsTrue result ↔ All IsDigit text.now }
+{
+    text.iter().all(|b| b'0' <= *b && *b <= b'9')
 }
 
 /// What is written as a decimal is read back as the number.

@@ -1,4 +1,3 @@
-use Rattle.std.proofs.Common.{ℕ, ◌<◌, ◌^◌, rules}
 use Rattle.pb_words.proofs.NumberLemmas.{decimal_writes}
 use Rattle.pb_words.proofs.numbers.decimals_are_read_back.Goals as goal
 

@@ -1,0 +1,52 @@
+-- Each status has its cause, on an input that tells its bytes.
+use Rattle.std.proofs.Common.{◌≡◌, ◌≢◌, ℕ, ◌<◌, ◌≤◌, ◌⊎◌, List, [], ◌∷◌, ◌++◌, length, Option, Some, None, refl, sym, ap, subst, inl, inr, ◌∙◌, arith}
+use Rattle.std.proofs.lemmas.List.{append-nil, length-append}
+use Rattle.pb_ports.specs.Ports.{Takes, IsSpent, Rose}
+use Rattle.panda_sim.specs.declared.statuses.Status.{Status}
+use Rattle.panda_sim.specs.declared.statuses.Status.TheVariants as statuses
+use Rattle.panda_sim.specs.Script.{Line, IsScript}
+use Rattle.panda_sim.specs.Run.{Replays, ReadsNoScript, Leaves, Refuses, Completes}
+use Rattle.panda_sim.proofs.Unique.{one_script}
+
+-- what was taken of told bytes, and what is left
+taken_of : (bytes read : List ℕ) (left : Option (List ℕ)) → Takes (Some bytes) read left → IsSpent left → read ≡ bytes
+taken_of bytes read left h spent =
+    let nothing : h.0 ≡ [] = subst IsSpent h.2 spent in
+    sym (h.1 ∙ (ap (λ rest. read ++ rest) nothing ∙ append-nil read))
+
+-- a script that was read to its end
+replays_told : (bytes : List ℕ) (given left : Option (List ℕ)) (Wrote : List ℕ → Type 0) → given ≡ Some bytes → Replays given left Wrote → (lines : List Line) × IsScript bytes lines
+replays_told bytes given left Wrote e r =
+    let same = taken_of bytes r.bytes left (subst (λ g. Takes g r.bytes left) e r.taken) r.spent in
+    (r.lines, subst (λ b. IsScript b r.lines) same r.script)
+
+-- what was read is no script, so all of it is none
+no_script_told : (bytes : List ℕ) (given left : Option (List ℕ)) → given ≡ Some bytes → ReadsNoScript given left → (lines : List Line) → ¬ (IsScript bytes lines)
+no_script_told bytes given left e r lines s =
+    let told : Takes (Some bytes) r.bytes left = subst (λ g. Takes g r.bytes left) e r.taken in
+    elim r.enough [
+      | inl spent ↦ r.none lines (subst (λ b. IsScript b lines) (sym (taken_of bytes r.bytes left told spent)) s)
+      | inr long ↦ omega (arith, long, s.size, ap length told.1, length-append r.bytes told.0)
+    ]
+
+-- an input that is no script
+pub refuses : (status : Status) (bytes : List ℕ) (given left held now : Option (List ℕ)) → Leaves status given left held now → status ≢ statuses.Usage → given ≡ Some bytes → ((lines : List Line) → ¬ (IsScript bytes lines)) → Refuses status
+refuses statuses.Ok bytes given left held now h known e none = let s = replays_told bytes given left _ e h in none s.0 s.1
+refuses statuses.Usage bytes given left held now h known e none = known refl
+refuses statuses.Script bytes given left held now h known e none = tt
+refuses statuses.ReadFault bytes given left held now h known e none = tt
+refuses statuses.WriteFault bytes given left held now h known e none = let s = replays_told bytes given left _ e h in none s.0 s.1
+refuses statuses.OutOfMemory bytes given left held now h known e none = tt
+
+-- a script where nothing fails
+pub completes : (status : Status) (bytes : List ℕ) (lines : List Line) (given left held now : Option (List ℕ)) (in_old in_new out_old out_new : ℕ) → Leaves status given left held now → status ≢ statuses.Usage → (status ≡ statuses.ReadFault → Rose in_old in_new) → (status ≡ statuses.WriteFault → Rose out_old out_new) → given ≡ Some bytes → IsScript bytes lines → ¬ (Rose in_old in_new) → ¬ (Rose out_old out_new) → Completes status
+completes statuses.Ok bytes lines given left held now a b c d h known r w e s i o = tt
+completes statuses.Usage bytes lines given left held now a b c d h known r w e s i o = known refl
+completes statuses.Script bytes lines given left held now a b c d h known r w e s i o = no_script_told bytes given left e h.0 lines s
+completes statuses.ReadFault bytes lines given left held now a b c d h known r w e s i o = i (r refl)
+completes statuses.WriteFault bytes lines given left held now a b c d h known r w e s i o = o (w refl)
+completes statuses.OutOfMemory bytes lines given left held now a b c d h known r w e s i o = tt
+
+-- the words are known, so the status isn't that of a wrong use
+pub not_usage : (status : Status) (Known : Type 0) → (status ≡ statuses.Usage → ¬ Known) → Known → status ≢ statuses.Usage
+not_usage status Known h k e = h e k

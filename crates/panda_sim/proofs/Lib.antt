@@ -1,0 +1,6 @@
+pub mod LineLemmas
+pub mod Unique
+pub mod ReadSoFar
+pub mod PlayedSoFar
+pub mod OneWord
+pub mod Causes

@@ -1,0 +1,83 @@
+-- A text is cut in one way: the digits at its front, and what a line says.
+use Rattle.std.proofs.Common.{◌≡◌, ◌≢◌, ℕ, length, get_or, drop, ◌^◌, ◌<◌, ◌≤◌, ◌⊎◌, List, [], ◌∷◌, ◌++◌, All, Err, ℤ, pos, codes, refl, sym, ap, subst, inl, inr, ◌∙◌, arith}
+use Rattle.std.proofs.lemmas.List.Elements.{All-head, All-tail}
+use Rattle.pb_words.specs.Numbers.{IsDigit, ReadsUint, WritesNumber}
+use Rattle.pb_words.specs.declared.NumFault.{NumFault}
+use Rattle.pb_words.specs.declared.NumFault.TheVariants as faults
+use Rattle.panda_sim.specs.Cuts.{BeginsNoDigit}
+use Rattle.panda_sim.specs.Script.{Line, Deed, Skipped, Timed, Level, Command, End, Says, Follows, IsLine, WritesSigned}
+
+-- Digits, and then no digit: there is one such cut.
+pub one_cut : (a b x y : List ℕ) → All IsDigit a → All IsDigit b → BeginsNoDigit x → BeginsNoDigit y → a ++ x ≡ b ++ y → (a ≡ b) × (x ≡ y)
+one_cut [] [] x y da db nx ny e = (refl, e)
+one_cut [] (c ∷ b) [] y da db nx ny e = cc
+one_cut [] (c ∷ b) (d ∷ x) y da db nx ny e =
+    let same : d ≡ c = cc in
+    absurd (nx (subst IsDigit (sym same) (All-head IsDigit c b db)))
+one_cut (c ∷ a) [] x [] da db nx ny e = cc
+one_cut (c ∷ a) [] x (d ∷ y) da db nx ny e =
+    let same : c ≡ d = cc in
+    absurd (ny (subst IsDigit same (All-head IsDigit c a da)))
+one_cut (c ∷ a) (d ∷ b) x y da db nx ny e =
+    let rest : a ++ x ≡ b ++ y = cc in
+    let more = one_cut a b x y (All-tail IsDigit c a da) (All-tail IsDigit d b db) nx ny rest in
+    let first : c ≡ d = cc in
+    let others : a ≡ b = more.0 in
+    (cc, more.1)
+
+-- a space is no digit
+space_first : (x : List ℕ) (rest : List ℕ) → rest ≡ 32 ∷ x → BeginsNoDigit rest
+space_first x rest e = subst BeginsNoDigit (sym e) (λ (d : IsDigit 32). omega (arith, d.0))
+
+-- what stands behind a tick begins with a space
+pub says_no_digit : (rest : List ℕ) (deed : Deed) → Says rest deed → BeginsNoDigit rest
+says_no_digit rest (Level target value) h = space_first _ rest h.4
+says_no_digit rest (Command session text) h = space_first _ rest h.5
+says_no_digit rest End h = space_first _ rest h
+
+-- what follows the number of a session begins with no digit
+pub follows_no_digit : (rest text : List ℕ) → Follows rest text → BeginsNoDigit rest
+follows_no_digit rest text (inl h) = subst BeginsNoDigit (sym h.0) tt
+follows_no_digit rest text (inr h) = space_first text rest h
+
+-- where reading fails no number is written
+pub err_writes_none : (text : List ℕ) (limit n : ℕ) (e : NumFault) → ReadsUint limit text (Err e) → WritesNumber text n → n ≤ limit → ⊥
+err_writes_none text limit n faults.Malformed h w le = h w.grammar
+err_writes_none text limit n faults.TooLarge h w le = omega (arith, h.1, w.value)
+
+-- the tick and the deed of a line, by its cut
+pub timed_parts : (text a x : List ℕ) (tick : ℕ) (deed : Deed) → text ≡ a ++ x → All IsDigit a → BeginsNoDigit x → IsLine text (Timed tick deed) → (tick < 2 ^ 62) × WritesNumber a tick × Says x deed
+timed_parts text a x tick deed e da nx h =
+    let cut = one_cut h.1 a h.2 x h.3.grammar.digits da (says_no_digit h.2 deed h.4) nx (sym h.5 ∙ e) in
+    (h.0, subst (λ digits. WritesNumber digits tick) cut.0 h.3, subst (λ rest. Says rest deed) cut.1 h.4)
+
+-- neither an empty text nor a comment, and nothing at a tick
+pub no_line : (text : List ℕ) → 1 ≤ length text → get_or text 0 0 ≢ 35 → ((tick : ℕ) (deed : Deed) → ¬ (IsLine text (Timed tick deed))) → (line : Line) → ¬ (IsLine text line)
+no_line text some other none Skipped (inl e) = omega (arith, ap length e)
+no_line text some other none Skipped (inr h) = other (ap (λ t. get_or t 0 0) h.1)
+no_line text some other none (Timed tick deed) h = none tick deed h
+
+-- no level behind the number of an input
+pub no_level : (rest : List ℕ) → 2 ≤ length rest → ((value : ℤ) → (value ≡ pos 0) ⊎ (value ≡ pos 1) → ¬ (WritesSigned (drop 2 rest) value)) → (deed : Deed) → ¬ (Says (codes " S TTLIN" ++ rest) deed)
+no_level [] long none deed h = omega arith
+no_level (a ∷ []) long none deed h = omega arith
+no_level (a ∷ b ∷ more) long none (Level target value) h =
+    let same : h.2 ≡ more = let e = h.4 in cc in
+    none value h.1 (subst (λ t. WritesSigned t value) same h.3)
+no_level (a ∷ b ∷ more) long none (Command session text) h = omega (arith, ap (λ t. get_or t 1 0) h.5)
+no_level (a ∷ b ∷ more) long none End h = omega (arith, ap (λ t. get_or t 1 0) h)
+
+-- the number of the session and the text of a command, by its cut
+pub command_parts : (rest a x : List ℕ) (deed : Deed) → rest ≡ a ++ x → All IsDigit a → BeginsNoDigit x → Says (codes " C " ++ rest) deed → (text : List ℕ) × WritesNumber a 1 × Follows x text
+command_parts rest a x (Level target value) e da nx h = absurd (omega (arith, ap (λ t. get_or t 1 0) h.4))
+command_parts rest a x (Command session text) e da nx h =
+    let f : rest ≡ h.1 ++ h.2 = let g = h.5 in cc in
+    let cut = one_cut h.1 a h.2 x h.3.grammar.digits da (follows_no_digit h.2 text h.4) nx (sym f ∙ e) in
+    let number : WritesNumber h.1 1 = subst (λ n. WritesNumber h.1 n) h.0 h.3 in
+    (text, subst (λ digits. WritesNumber digits 1) cut.0 number, subst (λ more. Follows more text) cut.1 h.4)
+command_parts rest a x End e da nx h = absurd (omega (arith, ap (λ t. get_or t 1 0) h))
+
+-- something else than a space follows
+pub follows_not : (x text : List ℕ) → 1 ≤ length x → get_or x 0 0 ≢ 32 → ¬ (Follows x text)
+follows_not x text some other (inl h) = omega (arith, ap length h.0)
+follows_not x text some other (inr e) = other (ap (λ t. get_or t 0 0) e)

@@ -1,0 +1,7 @@
+pub mod Cuts
+pub mod Draft
+pub mod Lines
+pub mod Output
+pub mod Plays
+pub mod Run
+pub mod Script

@@ -1,0 +1,36 @@
+//! Worked scripts, by the definition of their output alone.
+ghost use Rattle.std.specs.Prelude.{◌≡◌, pos, [], ◌∷◌, codes};
+ghost use Rattle.panda_sim.specs.Script.{Timed, Skipped, Level, Command, End};
+ghost use Rattle.panda_sim.specs.Output.{output};
+
+/// The end alone writes nothing. A LUT shows its input one tick later, and a row of the stimulus stands
+/// at its tick before every command of that tick. A LUT that feeds itself toggles at every tick.
+pub fn worked_scripts()
+    ensures empty { output (Timed 0 End ∷ []) ≡ [] }
+    ensures latency { output (
+        Timed 0 (Command 1 (codes "LUT1.INPA=TTLIN1.VAL"))
+        ∷ Timed 0 (Command 1 (codes "LUT1.FUNC=0x0000FFFF"))
+        ∷ Timed 10 (Command 1 (codes "TTLIN1.VAL?"))
+        ∷ Timed 10 (Level 0 (pos 1))
+        ∷ Timed 10 (Command 1 (codes "LUT1.OUT?"))
+        ∷ Timed 11 (Command 1 (codes "LUT1.OUT?"))
+        ∷ Timed 11 End
+        ∷ [])
+        ≡ codes "0 C 1 3\nOK\n0 C 1 3\nOK\n10 C 1 6\nOK =1\n10 C 1 6\nOK =1\n11 C 1 6\nOK =0\n" }
+    ensures toggling { output (
+        Timed 0 (Command 1 (codes "LUT1.INPA=LUT1.OUT"))
+        ∷ Timed 0 (Command 1 (codes "LUT1.FUNC=0x0000FFFF"))
+        ∷ Timed 9 (Command 1 (codes "LUT1.OUT?"))
+        ∷ Timed 10 (Command 1 (codes "LUT1.OUT?"))
+        ∷ Timed 10 End
+        ∷ [])
+        ≡ codes "0 C 1 3\nOK\n0 C 1 3\nOK\n9 C 1 6\nOK =1\n10 C 1 6\nOK =0\n" }
+    ensures refused { output (
+        Skipped
+        ∷ Timed 0 (Command 1 [])
+        ∷ Timed 0 (Command 1 (codes "LUT1.INPA=TTLIN7.VAL"))
+        ∷ Timed 0 (Command 1 (codes "LUT1.FUNC=0X1"))
+        ∷ Timed 0 End
+        ∷ [])
+        ≡ codes "0 C 1 22\nERR Malformed command\n0 C 1 18\nERR Unknown label\n0 C 1 20\nERR Malformed value\n" }
+{}

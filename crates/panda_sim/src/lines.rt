@@ -1,0 +1,19 @@
+/// What happens at the tick of a line.
+#[derive(Clone, Copy, Debug)]
+pub enum ReadDeed<'a> {
+    /// TTL input 0 to 5 has level 0 or 1 from here on.
+    Level(u8, i32),
+    /// Control session 1 sends this line.
+    Command(&'a [u8]),
+    /// The end of the script.
+    End,
+}
+
+/// A line of a script.
+#[derive(Clone, Copy, Debug)]
+pub enum ReadLine<'a> {
+    /// Empty, or a comment.
+    Skipped,
+    /// A deed at a tick.
+    Timed(u64, ReadDeed<'a>),
+}

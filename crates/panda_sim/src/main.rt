@@ -1,0 +1,101 @@
+//! `panda_sim replay`: runs a script of commands and stimulus from bytes to bytes.
+#![tactic(auto)]
+
+mod cuts;
+mod examples;
+mod lines;
+mod parsing;
+mod playing;
+mod reading;
+mod running;
+mod scripts;
+mod sections;
+mod statuses;
+#[cfg(test)]
+mod tests;
+
+ghost use Rattle.std.specs.Prelude.{◌≡◌, ◌<◌};
+
+use pb_ports::{ReaderSource, WriterSink};
+use pb_words::{Steps, Text};
+use running::run;
+use statuses::Status;
+use std::alloc::Global;
+use std::marker::Brand;
+use std::process::ExitCode;
+use std::rt::Env;
+use std::sync::ledger::{Blank, Ledger};
+use std::{env, io};
+
+fn main(rt: HostRuntime) -> ExitCode {
+    let status = match words(&rt) {
+        Ok(words) => replay::<Brand, HostRuntime>(&rt, words.as_slice(), Blank::new(1)),
+        Err(status) => status,
+    };
+    report(&rt, status);
+    ExitCode::from(code(status))
+}
+
+/// The words of the command line after the program's name. One that isn't text is a wrong word.
+fn words<R: Env + AllocGlobal>(rt: &R) -> Result<Vec<Text>, Status> {
+    let args = match env::args(rt) {
+        Ok(args) => args,
+        Err(e) => {
+            return Err(if e.kind() == io::ErrorKind::OutOfMemory {
+                Status::OutOfMemory
+            } else {
+                Status::Usage
+            });
+        }
+    };
+    let mut words = Vec::new(rt.alloc());
+    for (i, arg) in args.enumerate() {
+        if 0 < i {
+            let mut word = Text::new(rt.alloc());
+            if word.append(arg.as_str().as_bytes()).is_err() {
+                return Err(Status::OutOfMemory);
+            }
+            if words.push(word).is_err() {
+                return Err(Status::OutOfMemory);
+            }
+        }
+    }
+    Ok(words)
+}
+
+/// Runs the program between standard input and standard output.
+fn replay<L: Ledger, R: Input + Print + AllocGlobal>(rt: &R, words: &[Text], blank: Blank) -> Status
+    requires name { blank.name ≡ L.name }
+    requires parts { blank.parts ≡ L.parts }
+    requires some { 0 < blank.parts }
+{
+    let mut input = ReaderSource::new(rt.reader());
+    let mut output = WriterSink::new(io::writer(rt));
+    let mut steps = Steps::<L>::new(blank);
+    run(rt.alloc(), words, &mut input, &mut output, &mut steps)
+}
+
+/// The exit status of the program.
+fn code(status: Status) -> u8 {
+    match status {
+        Status::Ok => 0,
+        Status::Usage => 1,
+        Status::Script => 2,
+        Status::ReadFault => 3,
+        Status::WriteFault => 4,
+        Status::OutOfMemory => 5,
+    }
+}
+
+/// Tells a person why the program ends, on standard error.
+fn report(rt: &impl Eprint, status: Status) {
+    let text = match status {
+        Status::Ok => return,
+        Status::Usage => "usage: panda_sim replay",
+        Status::Script => "script refused",
+        Status::ReadFault => "read fault",
+        Status::WriteFault => "write fault",
+        Status::OutOfMemory => "out of memory",
+    };
+    let _ = rt.eprintln(text);
+}

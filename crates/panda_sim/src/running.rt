@@ -1,0 +1,130 @@
+ghost use Rattle.std.specs.Prelude.{◌≡◌, ◌≢◌, ℕ, ◌<◌, ◌↔◌, ◌⊎◌, List, length, IsTrue, IfOk, IsErrOf};
+ghost use Rattle.pb_ports.specs.Ports.{Rose, Takes, IsSpent};
+ghost use Rattle.panda_sim.specs.Script.{Line, IsScript};
+ghost use Rattle.panda_sim.specs.Run.{IsReplay, Leaves, Replayed, Refuses, Completes};
+
+use crate::parsing::{LONGEST, parse};
+use crate::playing::play;
+use crate::statuses::{Played, Status};
+use pb_ports::{Read, Sink, Source};
+use pb_words::{Steps, Text};
+use std::alloc::Global;
+use std::sync::ledger::Ledger;
+
+/// Runs the program on these words: `replay` reads a script and writes the answers to its commands.
+pub fn run<S: Source, K: Sink, L: Ledger>(
+    alloc: Global,
+    words: &[Text],
+    input: &mut S,
+    output: &mut K,
+    steps: &mut Steps<L>,
+) -> Status
+    ensures leaves { Leaves result (S.left input.old) (S.left input.new) (K.held output.old) (K.held output.new) }
+
+    // The words alone make it a wrong use.
+    ensures usage { (result ≡ Status.Usage) ↔ (¬ (IsReplay words.now)) }
+    ensures known { result ≢ Status.Usage → IsReplay words.now }
+
+    // A fault has its cause in the input or the output.
+    ensures read_cause { result ≡ Status.ReadFault → Rose (S.faults input.old) (S.faults input.new) }
+    ensures write_cause { result ≡ Status.WriteFault → Rose (K.faults output.old) (K.faults output.new) }
+
+    // What is no script is refused, unless the input fails or memory runs out first.
+    ensures script { (bytes : List ℕ) → IsReplay words.now → S.left input.old ≡ Some bytes
+        → ((lines : List Line) → ¬ (IsScript bytes lines)) → Refuses result }
+
+    // A script with no fault counted is played to its end, unless memory runs out.
+    ensures complete { (bytes : List ℕ) (lines : List Line) → IsReplay words.now → S.left input.old ≡ Some bytes
+        → IsScript bytes lines → ¬ (Rose (S.faults input.old) (S.faults input.new)) → ¬ (Rose (K.faults output.old) (K.faults output.new))
+        → Completes result }
+{
+    run_words(alloc, words, input, output, steps)
+}
+
+fn run_words<S: Source, K: Sink, L: Ledger>(
+    alloc: Global,
+    words: &[Text],
+    input: &mut S,
+    output: &mut K,
+    steps: &mut Steps<L>,
+) -> Status
+    ensures leaves { Leaves result (S.left input.old) (S.left input.new) (K.held output.old) (K.held output.new) }
+    ensures usage { (result ≡ Status.Usage) ↔ (¬ (IsReplay words.now)) }
+    ensures known { result ≢ Status.Usage → IsReplay words.now }
+    ensures read_cause { result ≡ Status.ReadFault → Rose (S.faults input.old) (S.faults input.new) }
+    ensures write_cause { result ≡ Status.WriteFault → Rose (K.faults output.old) (K.faults output.new) }
+{
+    if !is_replay(words) {
+        return Status::Usage;
+    }
+    match read_all(alloc, input) {
+        Ok(text) => replay(alloc, text.bytes(), output, steps),
+        Err(ReadError::Fault) => Status::ReadFault,
+        Err(ReadError::OutOfMemory) => Status::OutOfMemory,
+    }
+}
+
+/// The bytes of a script are one list of lines, so a script has one output.
+pub fn scripts_have_one_reading()
+    ensures { (bytes : List ℕ) (lines others : List Line) → IsScript bytes lines → IsScript bytes others → lines ≡ others }
+{}
+
+/// Why the input isn't read to its end.
+#[derive(Clone, Copy, Debug, PartialEq, Eq)]
+enum ReadError {
+    /// The input failed.
+    Fault,
+    /// Memory ran out.
+    OutOfMemory,
+}
+
+fn is_replay(words: &[Text]) -> bool
+    ensures { IsTrue result ↔ IsReplay words.now }
+{
+    match words {
+        [word] => word.bytes() == b"replay".as_slice(),
+        _ => false,
+    }
+}
+
+/// Reads the input to its end, or until it is too long for a script.
+fn read_all<S: Source>(alloc: Global, input: &mut S) -> Result<Text, ReadError>
+    ensures taken { IfOk result (λ text. Takes (S.left input.old) text (S.left input.new)) }
+    ensures enough { IfOk result (λ text. IsSpent (S.left input.new) ⊎ (16777216 < length text)) }
+    ensures cause { IsErrOf result ReadError.Fault → Rose (S.faults input.old) (S.faults input.new) }
+{
+    let mut text = Text::new(alloc);
+    let mut piece = [0u8; 16384];
+    while text.bytes().len() <= LONGEST {
+        match input.read(&mut piece) {
+            Read::Some(n) => match text.append(&piece[..n]) {
+                Ok(()) => {}
+                Err(_) => return Err(ReadError::OutOfMemory),
+            },
+            Read::End => return Ok(text),
+            Read::Failed => return Err(ReadError::Fault),
+        }
+    }
+    Ok(text)
+}
+
+/// Plays the script that the bytes are, if any.
+fn replay<K: Sink, L: Ledger>(
+    alloc: Global,
+    bytes: &[u8],
+    output: &mut K,
+    steps: &mut Steps<L>,
+) -> Status
+    ensures replayed { Replayed result bytes.now (K.held output.old) (K.held output.new) }
+    ensures cause { result ≡ Status.WriteFault → Rose (K.faults output.old) (K.faults output.new) }
+{
+    match parse(alloc, bytes) {
+        Ok(Some(script)) => match play(alloc, script, output, steps) {
+            Played::Ok => Status::Ok,
+            Played::WriteFault => Status::WriteFault,
+            Played::OutOfMemory => Status::OutOfMemory,
+        },
+        Ok(None) => Status::Script,
+        Err(_) => Status::OutOfMemory,
+    }
+}

@@ -1,0 +1,41 @@
+ghost use Rattle.std.specs.Prelude.{◌≡◌, ◌<◌, ◌^◌};
+
+use pb_words::{Refusal, Text};
+
+/// What may happen to the core.
+#[derive(Debug, Drop)]
+pub enum Event {
+    /// Control session `id`, from 1 to 8, sends a whole command, its newline included.
+    Line { id: u32, text: Text },
+    /// The box is stepped up to this tick, which is below 2^62.
+    Advance { to: u64 },
+}
+
+/// What the core answers to an event.
+#[derive(Debug, Drop)]
+pub enum Answer {
+    /// Done.
+    Ok,
+    /// These lines.
+    Reply(Text),
+    /// The command is refused, and changed nothing.
+    Error(Refusal),
+    /// The box stands at this tick.
+    Reached { tick: u64 },
+}
+
+impl Answer {
+    ghost use Rattle.pb_core.specs.Answer.{bytes_of};
+
+    /// What a session writes for the answer.
+    pub fn bytes(&self) -> &[u8]
+        ensures { result.now ≡ bytes_of self.now }
+    {
+        match self {
+            Answer::Ok => b"OK\n",
+            Answer::Reply(text) => text.bytes(),
+            Answer::Error(refusal) => refusal.line(),
+            Answer::Reached { tick: _ } => b"",
+        }
+    }
+}

@@ -1,0 +1,59 @@
+ghost use Rattle.std.specs.Prelude.{◌≡◌, ℕ, ◌+◌, ◌*◌, ◌<◌, ◌^◌, ◌++◌, ◌==◌, List, map, length, take};
+ghost use Rattle.pb_core.specs.Tick.{selected, lut_next, opening_box};
+
+use crate::boxes::{BoxState, LutSettings};
+
+/// The box as it opens.
+pub(crate) const fn opening() -> BoxState
+    ensures { result ≡ opening_box }
+{
+    BoxState {
+        tick: 0,
+        luts: [LutSettings {
+            inputs: [128; 5],
+            function: 0,
+        }; 8],
+        outputs: [false; 8],
+    }
+}
+
+/// The bit bus: the TTL inputs, then the outputs of the LUTs.
+pub(crate) fn bus(inputs: &[bool; 6], outputs: &[bool; 8]) -> [bool; 14]
+    ensures { result ≡ inputs.now ++ outputs.now }
+{
+    let mut bits = [false; 14];
+    bits[..6].copy_from_slice(inputs);
+    bits[6..].copy_from_slice(outputs);
+    bits
+}
+
+/// What a mux with this selection sees.
+pub(crate) fn see(bus: &[bool; 14], entry: u8) -> bool
+    ensures { result ≡ selected bus.now entry }
+{
+    if entry == 129 {
+        return true;
+    }
+    bus.get(entry as usize).copied().unwrap_or(false)
+}
+
+/// The outputs of all LUTs one tick later.
+pub(crate) fn next_outputs(luts: &[LutSettings; 8], bus: &[bool; 14]) -> [bool; 8]
+    ensures { result ≡ map (λ lut. lut_next lut (map (selected bus.now) lut.inputs)) luts.now }
+{
+    let mut outputs = [false; 8];
+    for j in 0..8 {
+        outputs[j] = next_output(&luts[j], bus);
+    }
+    outputs
+}
+
+fn next_output(lut: &LutSettings, bus: &[bool; 14]) -> bool
+    ensures { result ≡ lut_next lut.now (map (selected bus.now) lut.now.inputs) }
+{
+    let mut place: u32 = 0;
+    for entry in lut.inputs.iter() {
+        place = 2 * place + u32::from(see(bus, *entry));
+    }
+    (lut.function >> place) & 1 == 1
+}

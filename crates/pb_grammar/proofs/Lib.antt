@@ -1,0 +1,6 @@
+pub mod Finding
+pub mod Lines
+pub mod Lists
+pub mod Names
+pub mod Sayings
+pub mod Texts

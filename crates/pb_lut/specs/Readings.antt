@@ -1,0 +1,39 @@
+-- What the readers of an expression answer.
+use Rattle.std.specs.Prelude.{◌≡◌, ℕ, List, [], ◌∷◌, ◌++◌, Option, Some, None, if◌then◌else◌, ◌==◌}
+use Rattle.pb_lut.specs.Expressions.{Level, ors, xors, ands, nots, atoms, Letter, input_a, input_b, input_c, input_d, input_e, zero_bit, one_bit, Tree, print, number}
+
+-- the first byte of the text is b
+abbrev pub BeginsWith : ℕ → List ℕ → Type 0
+BeginsWith b [] = ⊥
+BeginsWith b (c ∷ text) = c ≡ b
+
+-- what follows doesn't go on with an expression of this level: it begins with no operator of the
+-- level or of a tighter one (`|` is 124, `^` is 94, `&` is 38)
+abbrev pub Ends : Level → List ℕ → Type 0
+Ends ors rest = ¬ (BeginsWith 124 rest) × ¬ (BeginsWith 94 rest) × ¬ (BeginsWith 38 rest)
+Ends xors rest = ¬ (BeginsWith 94 rest) × ¬ (BeginsWith 38 rest)
+Ends ands rest = ¬ (BeginsWith 38 rest)
+Ends nots rest = Unit {0}
+Ends atoms rest = Unit {0}
+
+-- at the front of the text stands an expression of this level and of the number n, and the rest follows
+pub record Reads (level : Level) (text : List ℕ) (n : ℕ) (rest : List ℕ) : Type 0 where
+  pub tree : Tree level
+  pub written : text ≡ print tree ++ rest
+  pub value : number tree ≡ n
+  pub ends : Ends level rest
+
+-- no expression of this level stands there
+abbrev pub ReadsNothing : Level → List ℕ → Type 0
+ReadsNothing level text = (n : ℕ) (rest : List ℕ) → ¬ (Reads level text n rest)
+
+-- the letter of a byte
+abbrev pub letter_of : ℕ → Option Letter
+letter_of c =
+    if c == 65 then Some input_a else
+    (if c == 66 then Some input_b else
+    (if c == 67 then Some input_c else
+    (if c == 68 then Some input_d else
+    (if c == 69 then Some input_e else
+    (if c == 48 then Some zero_bit else
+    (if c == 49 then Some one_bit else None))))))

@@ -1,0 +1,30 @@
+ghost use Rattle.std.specs.Prelude.{◌≡◌, ℕ, ◌^◌, ◌<◌, List, codes};
+ghost use Rattle.std.specs.Int.{bit_at};
+ghost use Rattle.pb_lut.specs.Expressions.{Tree, ors, Inputs, print, value, bit, place, number};
+ghost use Rattle.pb_lut.specs.Functions.{WritesFunction};
+
+/// The number of an expression has 32 bits, and each is the expression's value at one state of the inputs.
+pub fn each_bit_is_a_value()
+    ensures fits { (t : Tree ors) → number t < 2 ^ 32 }
+    ensures each { (t : Tree ors) (x : Inputs) → bit_at (number t) (place x) ≡ bit (value x t) }
+{}
+
+/// No text can be read as two expressions.
+pub fn one_reading()
+    ensures { (s t : Tree ors) → print s ≡ print t → s ≡ t }
+{}
+
+/// No text gives two numbers.
+pub fn one_number()
+    ensures { (text : List ℕ) (m n : ℕ) → WritesFunction text m → WritesFunction text n → m ≡ n }
+{}
+
+/// The numbers of a few texts.
+pub fn worked_numbers()
+    ensures low_half { WritesFunction (codes "~A") 0x0000_ffff }
+    ensures quarter { WritesFunction (codes "A&B") 0xff00_0000 }
+    ensures tilde_first { WritesFunction (codes " ~A & B ") 0x0000_ff00 }
+    ensures tighter_first { WritesFunction (codes "A|B^C&~D") 0xffff_cf30 }
+    ensures brackets_first { WritesFunction (codes "(A|B)&C") 0xf0f0_f000 }
+    ensures digits { WritesFunction (codes "0 x fF") 0xff }
+{}

@@ -1,0 +1,11 @@
+//! The function of a lookup table: a text of a user becomes the 32 bits that
+//! the table looks its output up in. What a text means is said in
+//! `specs/Functions.antt` and, for logic expressions, in `specs/Expressions.antt`.
+#![tactic(auto)]
+
+mod expressions;
+mod functions;
+mod laws;
+
+pub use functions::parse;
+pub use laws::{each_bit_is_a_value, one_number, one_reading, worked_numbers};

@@ -1,0 +1,99 @@
+-- Decimals with at most nine places after the point, between text and value, and the one text of
+-- each that is written.
+use Rattle.std.specs.Prelude.{◌≡◌, ⊤, ℕ, zero, suc, ◌+◌, ◌-◌, ◌*◌, ◌/◌, ◌%◌, ◌^◌, ◌<◌, ◌≤◌, ◌==◌, if◌then◌else◌, List, [], ◌∷◌, ◌++◌, length, replicate, All, ℤ, pos, negsuc, Option, Some, None, Result, Ok, Err, decimal}
+use Rattle.pb_words.specs.declared.numbers.NumFault.{NumFault}
+use Rattle.pb_words.specs.declared.numbers.NumFault.TheVariants as faults
+use Rattle.pb_words.specs.declared.signed.Sign.{Sign}
+use Rattle.pb_words.specs.declared.decimals.Decimal9.{Decimal9}
+use Rattle.pb_words.specs.Numbers.{IsDigit, value_of}
+use Rattle.pb_words.specs.Signed.{sign_text, signed}
+
+-- a decimal as it is written: an optional sign, whole digits, and optionally a point with places
+pub record Decimal : Type 0 where
+  pub sign : Sign
+  pub whole : List ℕ
+  pub after_point : Option (List ℕ)
+
+-- the point and the places, as they are written
+abbrev pub point_text : Option (List ℕ) → List ℕ
+point_text None = []
+point_text (Some places) = 46 ∷ places
+
+-- the digits after the point, none where there is no point
+abbrev pub places_of : Option (List ℕ) → List ℕ
+places_of None = []
+places_of (Some places) = places
+
+-- its text
+abbrev pub decimal_text : Decimal → List ℕ
+decimal_text d = sign_text d.sign ++ (d.whole ++ point_text d.after_point)
+
+-- the digits, filled up with zeros to nine
+abbrev pub nine_places : List ℕ → List ℕ
+nine_places places = places ++ replicate (9 - length places) 48
+
+-- its value, in billionths
+abbrev pub decimal_value : Decimal → ℤ
+decimal_value d =
+    signed d.sign (value_of d.whole * 10 ^ 9 + value_of (nine_places (places_of d.after_point)))
+
+-- a decimal in the grammar: at least one digit in all, and at most nine after the point
+pub record IsDecimal (d : Decimal) : Type 0 where
+  pub whole : All IsDigit d.whole
+  pub places : All IsDigit (places_of d.after_point)
+  pub some : 0 < length d.whole + length (places_of d.after_point)
+  pub nine : length (places_of d.after_point) ≤ 9
+
+-- the text is this decimal as it is written
+pub record WritesDecimal (text : List ℕ) (d : Decimal) : Type 0 where
+  pub grammar : IsDecimal d
+  pub printed : text ≡ decimal_text d
+
+-- the text is a decimal of this sign with these whole digits and these places
+pub record IsCut (text : List ℕ) (sign : Sign) (whole places : List ℕ) : Type 0 where
+  pub after_point : Option (List ℕ)
+  pub same : places_of after_point ≡ places
+  pub writes : WritesDecimal text (record { sign = sign; whole = whole; after_point = after_point })
+
+-- what follows the whole digits is nothing, or a point with these places
+pub record ArePlaces (rest places : List ℕ) : Type 0 where
+  pub after_point : Option (List ℕ)
+  pub same : places_of after_point ≡ places
+  pub printed : rest ≡ point_text after_point
+  pub digits : All IsDigit places
+  pub nine : length places ≤ 9
+
+-- the text begins with no digit
+abbrev pub BeginsNoDigit : List ℕ → Type 0
+BeginsNoDigit [] = ⊤
+BeginsNoDigit (b ∷ bs) = ¬ (IsDigit b)
+
+-- what reading a decimal of at most that many whole digits answers
+abbrev pub ReadsDecimalUpTo : ℕ → List ℕ → Result Decimal9 NumFault → Type 0
+ReadsDecimalUpTo most text (Ok v) =
+    (d : Decimal) × WritesDecimal text d × (length d.whole ≤ most) × (decimal_value d ≡ v.billionths)
+ReadsDecimalUpTo most text (Err faults.Malformed) = (d : Decimal) → ¬ (WritesDecimal text d)
+ReadsDecimalUpTo most text (Err faults.TooLarge) = (d : Decimal) × WritesDecimal text d × (most < length d.whole)
+
+-- what reading a decimal of at most 18 whole digits answers
+abbrev pub ReadsDecimal : List ℕ → Result Decimal9 NumFault → Type 0
+ReadsDecimal text result = ReadsDecimalUpTo 18 text result
+
+-- the digits of n, which is below 10 ^ k, in k places, as far as they aren't all zeros
+unfoldable pub places : ℕ → ℕ → List ℕ
+places zero n = []
+places (suc k) n = if n == 0 then [] else (48 + n / 10 ^ k) ∷ places k (n % 10 ^ k)
+
+-- the point and the places of that many billionths, nothing where there are none
+abbrev pub fraction : ℕ → List ℕ
+fraction n = if n == 0 then [] else 46 ∷ places 9 n
+
+-- the canonical text of a decimal that isn't below zero
+abbrev pub canonical_size : ℕ → List ℕ
+canonical_size n = decimal (n / 10 ^ 9) ++ fraction (n % 10 ^ 9)
+
+-- the canonical text of a decimal, given in billionths: no zeros before the whole digits or after
+-- the last place, no point without places, and `-` only below zero
+unfoldable pub canonical : ℤ → List ℕ
+canonical (pos n) = canonical_size n
+canonical (negsuc n) = 45 ∷ canonical_size (suc n)
