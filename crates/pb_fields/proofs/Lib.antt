@@ -1,0 +1,9 @@
+pub mod RowLemmas
+pub mod FindingLemmas
+pub mod RunLemmas
+pub mod LabelLemmas
+pub mod LabelLaws
+pub mod ValueLimits
+pub mod ValueHex
+pub mod ValueRanges
+pub mod ValueLaws

@@ -1,0 +1,106 @@
+-- The labels of enumerations and muxes.
+use Rattle.std.specs.Prelude.{ℕ, ◌+◌, List, [], ◌∷◌, ◌++◌, map, slice_get, Option, Some, codes, if◌then◌else◌, ◌==◌}
+use Rattle.std.specs.List.{range_with_len, flat_map}
+
+-- what an SRGATE puts out while it is disabled
+abbrev pub when_disabled : List (List ℕ)
+when_disabled = codes "Set output low" ∷ codes "Set output high" ∷ codes "Keep current output" ∷ []
+
+-- the edges of a bit
+abbrev pub edges : List (List ℕ)
+edges = codes "Rising" ∷ codes "Falling" ∷ codes "Either" ∷ []
+
+-- the output of a DIV that gets the first pulse
+abbrev pub first_pulses : List (List ℕ)
+first_pulses = codes "OutN" ∷ codes "OutD" ∷ []
+
+-- the states of a SEQ
+abbrev pub seq_states : List (List ℕ)
+seq_states = codes "UNREADY" ∷ codes "WAIT_ENABLE" ∷ codes "WAIT_TRIGGER" ∷ codes "PHASE1" ∷ codes "PHASE2" ∷ []
+
+-- how a PCOMP takes its START
+abbrev pub relations : List (List ℕ)
+relations = codes "Absolute" ∷ codes "Relative" ∷ []
+
+-- the directions of a PCOMP
+abbrev pub directions : List (List ℕ)
+directions = codes "Positive" ∷ codes "Negative" ∷ codes "Either" ∷ []
+
+-- the states of a PCOMP
+abbrev pub pcomp_states : List (List ℕ)
+pcomp_states =
+    codes "WAIT_ENABLE" ∷ codes "WAIT_DIR" ∷ codes "WAIT_PRE_START" ∷ codes "WAIT_RISING" ∷ codes "WAIT_FALLING" ∷ []
+
+-- what is captured of a position
+abbrev pub position_captures : List (List ℕ)
+position_captures =
+    codes "No" ∷ codes "Value" ∷ codes "Min" ∷ codes "Max" ∷ codes "Sum" ∷ codes "Min Max" ∷ codes "Min Max Sum" ∷ []
+
+-- what is captured of PCAP's own values
+abbrev pub own_captures : List (List ℕ)
+own_captures = codes "No" ∷ codes "Value" ∷ []
+
+-- the units of a time
+abbrev pub time_units : List (List ℕ)
+time_units = codes "s" ∷ codes "ms" ∷ codes "us" ∷ []
+
+-- the labels of the list of that number, 1 to 10; a label's number is its place in the list
+unfoldable pub label_list : ℕ → List (List ℕ)
+label_list n =
+    if n == 1 then when_disabled else
+    (if n == 2 then edges else
+    (if n == 3 then first_pulses else
+    (if n == 4 then seq_states else
+    (if n == 5 then relations else
+    (if n == 6 then directions else
+    (if n == 7 then pcomp_states else
+    (if n == 8 then position_captures else
+    (if n == 9 then own_captures else
+    (if n == 10 then time_units else [])))))))))
+
+-- the numbers of a block's instances as they are written, from 1
+abbrev pub numbers : ℕ → List (List ℕ)
+numbers count = map (λ i. (48 + i) ∷ []) (range_with_len 1 count)
+
+-- the number of a block of one instance, which isn't written
+abbrev pub no_number : List (List ℕ)
+no_number = [] ∷ []
+
+-- the names of these fields in each instance of a block
+abbrev pub names : List ℕ → List (List ℕ) → List (List ℕ) → List (List ℕ)
+names block numbers fields = flat_map (λ n. map (λ f. block ++ n ++ 46 ∷ f) fields) numbers
+
+-- the outputs of a sequencer
+abbrev pub seq_outputs : List (List ℕ)
+seq_outputs =
+    codes "OUTA" ∷ codes "OUTB" ∷ codes "OUTC" ∷ codes "OUTD" ∷ codes "OUTE" ∷ codes "OUTF" ∷ codes "ACTIVE" ∷ []
+
+-- the names of the bit entries, in the order of their numbers
+unfoldable pub bit_names : List (List ℕ)
+bit_names =
+    names (codes "TTLIN") (numbers 6) (codes "VAL" ∷ [])
+    ++ names (codes "LUT") (numbers 8) (codes "OUT" ∷ [])
+    ++ names (codes "SRGATE") (numbers 4) (codes "OUT" ∷ [])
+    ++ names (codes "DIV") (numbers 4) (codes "OUTD" ∷ codes "OUTN" ∷ [])
+    ++ names (codes "PULSE") (numbers 4) (codes "OUT" ∷ [])
+    ++ names (codes "COUNTER") (numbers 8) (codes "CARRY" ∷ [])
+    ++ names (codes "CLOCK") (numbers 2) (codes "OUT" ∷ [])
+    ++ names (codes "SEQ") (numbers 2) seq_outputs
+    ++ names (codes "PCOMP") (numbers 2) (codes "OUT" ∷ codes "ACTIVE" ∷ [])
+    ++ names (codes "PCAP") no_number (codes "ACTIVE" ∷ [])
+    ++ names (codes "BITS") no_number (codes "OUTA" ∷ codes "OUTB" ∷ codes "OUTC" ∷ codes "OUTD" ∷ [])
+
+-- the names of the position entries, in the order of their numbers
+unfoldable pub position_names : List (List ℕ)
+position_names =
+    names (codes "INENC") (numbers 4) (codes "VAL" ∷ [])
+    ++ names (codes "COUNTER") (numbers 8) (codes "OUT" ∷ [])
+
+-- the label of what a bit mux selects: 128 is ZERO, 129 is ONE, and each other number its bit entry
+abbrev pub bit_mux_label : ℕ → Option (List ℕ)
+bit_mux_label raw =
+    if raw == 128 then Some (codes "ZERO") else (if raw == 129 then Some (codes "ONE") else slice_get bit_names raw)
+
+-- the label of what a position mux selects: 32 is ZERO, and each other number its position entry
+abbrev pub position_mux_label : ℕ → Option (List ℕ)
+position_mux_label raw = if raw == 32 then Some (codes "ZERO") else slice_get position_names raw

@@ -1,0 +1,13 @@
+pub mod Types
+pub mod Catalogue
+pub mod Rows
+pub mod Places
+pub mod Slots
+pub mod Names
+pub mod Finding
+pub mod Order
+pub mod Entries
+pub mod Runs
+pub mod Labels
+pub mod Values
+pub mod Spelling

@@ -1,0 +1,215 @@
+ghost use Rattle.std.specs.Prelude.{◌≡◌, ◌<◌, ◌≤◌, ◌==◌, ◌&&◌, nat_le, find, IfSome};
+ghost use Rattle.pb_fields.specs.Entries.{entry_of, at_entry_of};
+ghost use Rattle.pb_fields.specs.Slots.{IsSlot};
+ghost use Rattle.pb_fields.specs.Runs.{run_with, run_around, IsAround};
+
+use crate::slots::Slot;
+
+/// The outputs of a block that drive a run of entries: for each instance in turn the fields from
+/// `field` on, `outputs` of them. The positions are counted from 128.
+#[derive(Clone, Copy)]
+pub(crate) struct Run {
+    pub first: u8,
+    pub last: u8,
+    pub block: u8,
+    pub field: u8,
+    pub last_field: u8,
+    pub outputs: u8,
+}
+
+impl Run {
+    fn has_field(&self, block: u8, field: u8) -> bool
+        ensures { result ≡ (self.now.block == block && nat_le self.now.field field && nat_le field self.now.last_field) }
+    {
+        self.block == block && self.field <= field && field <= self.last_field
+    }
+
+    fn has_entry(&self, entry: u8) -> bool
+        ensures { result ≡ (nat_le self.now.first entry && nat_le entry self.now.last) }
+    {
+        self.first <= entry && entry <= self.last
+    }
+}
+
+/// The runs of both buses.
+pub(crate) static RUNS: [Run; 13] = [
+    // TTLIN
+    Run {
+        first: 0,
+        last: 5,
+        block: 0,
+        field: 0,
+        last_field: 0,
+        outputs: 1,
+    },
+    // LUT
+    Run {
+        first: 6,
+        last: 13,
+        block: 3,
+        field: 6,
+        last_field: 6,
+        outputs: 1,
+    },
+    // SRGATE
+    Run {
+        first: 14,
+        last: 17,
+        block: 4,
+        field: 8,
+        last_field: 8,
+        outputs: 1,
+    },
+    // DIV
+    Run {
+        first: 18,
+        last: 25,
+        block: 5,
+        field: 5,
+        last_field: 6,
+        outputs: 2,
+    },
+    // PULSE
+    Run {
+        first: 26,
+        last: 29,
+        block: 6,
+        field: 9,
+        last_field: 9,
+        outputs: 1,
+    },
+    // COUNTER
+    Run {
+        first: 30,
+        last: 37,
+        block: 7,
+        field: 7,
+        last_field: 7,
+        outputs: 1,
+    },
+    // CLOCK
+    Run {
+        first: 38,
+        last: 39,
+        block: 8,
+        field: 3,
+        last_field: 3,
+        outputs: 1,
+    },
+    // SEQ
+    Run {
+        first: 40,
+        last: 53,
+        block: 9,
+        field: 14,
+        last_field: 20,
+        outputs: 7,
+    },
+    // PCOMP
+    Run {
+        first: 54,
+        last: 57,
+        block: 10,
+        field: 11,
+        last_field: 12,
+        outputs: 2,
+    },
+    // PCAP
+    Run {
+        first: 58,
+        last: 58,
+        block: 11,
+        field: 12,
+        last_field: 12,
+        outputs: 1,
+    },
+    // BITS
+    Run {
+        first: 59,
+        last: 62,
+        block: 2,
+        field: 4,
+        last_field: 7,
+        outputs: 4,
+    },
+    // INENC
+    Run {
+        first: 128,
+        last: 131,
+        block: 1,
+        field: 0,
+        last_field: 0,
+        outputs: 1,
+    },
+    // COUNTER
+    Run {
+        first: 132,
+        last: 139,
+        block: 7,
+        field: 8,
+        last_field: 8,
+        outputs: 1,
+    },
+];
+
+/// The bus entry that the slot drives; none for a slot that isn't an output.
+pub fn entry(slot: Slot) -> Option<u8>
+    requires { IsSlot slot }
+    ensures { result ≡ entry_of slot }
+{
+    if slot.attr != 0 {
+        return None;
+    }
+    match run_with(slot.block, slot.field) {
+        Some(run) => Some(run.first + (slot.instance - 1) * run.outputs + (slot.field - run.field)),
+        None => None,
+    }
+}
+
+/// The output that drives that bus entry; none where the entry is unused.
+pub fn at_entry(entry: u8) -> Option<Slot>
+    ensures { result ≡ at_entry_of entry }
+{
+    match run_around(entry) {
+        Some(run) => {
+            let place = entry - run.first;
+            Some(Slot {
+                block: run.block,
+                instance: place / run.outputs + 1,
+                field: run.field + place % run.outputs,
+                attr: 0,
+            })
+        }
+        None => None,
+    }
+}
+
+/// The run that has this field.
+#[tactic(auto, unfolding(crate::specs::Runs::run_with), using(crate::proofs::RunLemmas::with_field))]
+fn run_with(block: u8, field: u8) -> Option<Run>
+    ensures found { result ≡ run_with block field }
+    ensures from_field { IfSome result (λ run. run.field ≤ field) }
+{
+    first_with(&RUNS, block, field)
+}
+
+fn first_with(runs: &[Run], block: u8, field: u8) -> Option<Run>
+    ensures { result ≡ find (λ r. r.block == block && nat_le r.field field && nat_le field r.last_field) runs.now }
+{
+    runs.iter().find(|run| run.has_field(block, field)).copied()
+}
+
+/// The run that has this entry.
+#[tactic(auto, unfolding(crate::specs::Runs::run_around), using(crate::proofs::RunLemmas::around_entry))]
+fn run_around(entry: u8) -> Option<Run>
+    ensures found { result ≡ run_around entry }
+    ensures around { IfSome result (IsAround entry) }
+{
+    first_around(&RUNS, entry)
+}
+
+fn first_around(runs: &[Run], entry: u8) -> Option<Run>
+    ensures { result ≡ find (λ r. nat_le r.first entry && nat_le entry r.last) runs.now }
+{
+    runs.iter().find(|run| run.has_entry(entry)).copied()
+}

@@ -1,0 +1,41 @@
+//! The catalogue of the box: which blocks, fields and attributes there are, how
+//! they are named, what each holds, and which bus entry an output drives; and the
+//! values of fields, between text and number. What the catalogue is stands in
+//! `specs/Catalogue.antt` and `specs/Types.antt`, what values are in
+//! `specs/Values.antt`.
+#![tactic(auto)]
+
+mod entries;
+mod finding;
+mod kinds;
+mod labels;
+mod laws;
+mod lines;
+mod names;
+mod orders;
+mod roles;
+mod showing;
+mod slots;
+mod spelling;
+mod tables;
+mod types;
+mod values;
+
+pub use entries::{at_entry, entry};
+pub use finding::Catalog;
+pub use kinds::FieldKind;
+pub use labels::label_count;
+pub use laws::labels_are_names;
+pub use names::name;
+pub use orders::following;
+pub use roles::Role;
+pub use showing::show;
+pub use slots::{Slot, attribute, block_name, field_type, instances, kind, role};
+pub use spelling::spell;
+pub use types::{Attribute, FieldType, attribute_name, attributes};
+pub use values::{printed_values_are_spelled, texts_are_refused_once, values_are_spelled_once};
+
+#[cfg(test)]
+mod tests;
+#[cfg(test)]
+mod values_tests;

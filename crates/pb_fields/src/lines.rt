@@ -1,0 +1,68 @@
+ghost use Rattle.std.specs.Prelude.{◌≡◌, ℕ, ◌+◌, ◌<◌, ◌≤◌, List, [], ◌∷◌, ◌++◌, length, take, drop};
+
+use std::marker::Model;
+
+const ROOM: usize = 64;
+
+/// A text of at most 64 bytes that is put together on the stack. A clause sees the bytes.
+#[derive(Drop)]
+pub(crate) struct Line {
+    bytes: [u8; 64],
+    len: usize,
+}
+
+impl Model for Line {
+    ghost Value = { List ℕ };
+
+    ghost view = { λ l. take l.len l.bytes };
+
+    ghost invariant = { λ l. l.len ≤ 64 };
+}
+
+impl Line {
+    pub(crate) fn new() -> Line
+        ensures { result ≡ [] }
+    {
+        Line {
+            bytes: [0; ROOM],
+            len: 0,
+        }
+    }
+
+    pub(crate) fn push(&mut self, byte: u8)
+        requires { length self.old < 64 }
+        ensures { self.new ≡ self.old ++ byte ∷ [] }
+    {
+        self.bytes[self.len] = byte;
+        self.len += 1;
+    }
+
+    pub(crate) fn append(&mut self, text: &[u8])
+        requires { length self.old + length text.now ≤ 64 }
+        ensures { self.new ≡ self.old ++ text.now }
+    {
+        let end = self.len + text.len();
+        self.bytes[self.len..end].copy_from_slice(text);
+        self.len = end;
+    }
+
+    /// Writes the bytes at the front of `out`, and answers their number.
+    pub(crate) fn put(&self, out: &mut [u8]) -> usize
+        requires { length self.now ≤ length out.old }
+        ensures len { result ≡ length self.now }
+        ensures written { out.new ≡ self.now ++ drop (length self.now) out.old }
+    {
+        put_front(&self.bytes[..self.len], out)
+    }
+}
+
+/// Writes the text at the front of `out`, and answers its length.
+pub(crate) fn put_front(text: &[u8], out: &mut [u8]) -> usize
+    requires { length text.now ≤ length out.old }
+    ensures len { result ≡ length text.now }
+    ensures written { out.new ≡ text.now ++ drop (length text.now) out.old }
+{
+    let n = text.len();
+    out[..n].copy_from_slice(text);
+    n
+}

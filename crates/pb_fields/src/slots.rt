@@ -1,0 +1,83 @@
+ghost use Rattle.std.specs.Prelude.{◌≡◌, ◌<◌, ◌≤◌, ◌++◌, length, drop};
+ghost use Rattle.pb_fields.specs.Places.{block_of, count_of};
+ghost use Rattle.pb_fields.specs.Slots.{IsSlot, kind_of, role_at, type_at, attribute_at};
+
+use crate::kinds::FieldKind;
+use crate::lines::put_front;
+use crate::roles::Role;
+use crate::tables::{block_at, field_at};
+use crate::types::{Attribute, FieldType, attribute_kind, attributes, field_kind, field_role};
+
+/// One field or one attribute of the catalogue.
+#[derive(Clone, Copy, Debug, PartialEq, Eq)]
+pub struct Slot {
+    /// The place of the block in the catalogue, from 0.
+    pub block: u8,
+    /// The number of the instance, from 1.
+    pub instance: u8,
+    /// The place of the field in its block, from 0.
+    pub field: u8,
+    /// 0 for the field itself, else the place of the attribute in the list of its type, from 1.
+    pub attr: u8,
+}
+
+/// Writes the block's name without a number at the front of `out`, and answers its length.
+pub fn block_name(block: u8, out: &mut [u8]) -> usize
+    requires block { block < 12 }
+    requires room { 64 ≤ length out.old }
+    ensures len { result ≡ length (block_of block).name }
+    ensures written { out.new ≡ (block_of block).name ++ drop (length (block_of block).name) out.old }
+{
+    put_front(block_at(block).0, out)
+}
+
+/// How many instances of the block there are.
+pub fn instances(block: u8) -> u8
+    requires { block < 12 }
+    ensures { result ≡ count_of block }
+{
+    block_at(block).1
+}
+
+/// What the value of the field or the attribute is.
+pub fn kind(slot: Slot) -> FieldKind
+    requires { IsSlot slot }
+    ensures { result ≡ kind_of slot }
+{
+    match attribute(slot) {
+        None => field_kind(field_type(slot)),
+        Some(attribute) => attribute_kind(attribute, field_type(slot)),
+    }
+}
+
+/// What the field is to its block; `Attr` for an attribute.
+pub fn role(slot: Slot) -> Role
+    requires { IsSlot slot }
+    ensures { result ≡ role_at slot }
+{
+    if slot.attr == 0 {
+        field_role(field_type(slot))
+    } else {
+        Role::Attr
+    }
+}
+
+/// The type of the field, or of the field that has the attribute.
+pub fn field_type(slot: Slot) -> FieldType
+    requires { IsSlot slot }
+    ensures { result ≡ type_at slot }
+{
+    field_at(slot.block, slot.field).1
+}
+
+/// Which attribute it is; none for the field itself.
+pub fn attribute(slot: Slot) -> Option<Attribute>
+    requires { IsSlot slot }
+    ensures { result ≡ attribute_at slot }
+{
+    if slot.attr == 0 {
+        None
+    } else {
+        Some(attributes(field_type(slot))[slot.attr as usize - 1])
+    }
+}
