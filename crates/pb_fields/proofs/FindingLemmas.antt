@@ -6,9 +6,8 @@ use Rattle.std.proofs.lemmas.List.Sums.{prefix_len-le-length}
 use Rattle.std.proofs.lemmas.List.{length-map}
 use Rattle.std.proofs.lemmas.Bool.Decides.{nat_tests}
 use Rattle.pb_fields.specs.declared.tables.Field.{Field}
-use Rattle.pb_fields.specs.declared.tables.Block.{Block}
-use Rattle.pb_fields.specs.Catalogue.{BlockRow, FieldRow, catalogue}
-use Rattle.pb_fields.specs.Rows.{field_row, block_row}
+use Rattle.pb_fields.specs.Catalogue.{FieldRow}
+use Rattle.pb_fields.specs.Rows.{field_row}
 
 pub position-Some_is : {X : Type 0} (p : X → Bool) (xs : List X) (i : ℕ) → position p xs ≡ Some i → position_or_len p xs ≡ i
 position-Some_is p xs i h = grind (arith, nat_tests)
@@ -28,9 +27,6 @@ position-map p f xs ys h =
     let len : length (map f xs) ≡ length xs = length-map xs f in
     let same = prefix_len-map (λ y. not (p y)) f xs in
     (rw (← same, ← len) refl) ∙ ap (position p) h
-
-pub block_place : (xs : List Block) (name : List ℕ) → map block_row xs ≡ catalogue → position (λ x. pointwise nat_eq x.0.now name) xs ≡ position (λ (row : BlockRow). pointwise nat_eq row.name name) catalogue
-block_place xs name h = position-map (λ (row : BlockRow). pointwise nat_eq row.name name) block_row xs catalogue h
 
 pub field_place : (xs : List Field) (rows : List FieldRow) (name : List ℕ) → map field_row xs ≡ rows → position (λ x. pointwise nat_eq x.0.now name) xs ≡ position (λ (row : FieldRow). pointwise nat_eq row.name name) rows
 field_place xs rows name h = position-map (λ (row : FieldRow). pointwise nat_eq row.name name) field_row xs rows h

@@ -1,5 +1,6 @@
 pub mod RowLemmas
 pub mod FindingLemmas
+pub mod BlockNameLemmas
 pub mod RunLemmas
 pub mod LabelLemmas
 pub mod LabelLaws
@@ -7,3 +8,8 @@ pub mod ValueLimits
 pub mod ValueHex
 pub mod ValueRanges
 pub mod ValueLaws
+pub mod OrderLemmas
+pub mod EntryLaws
+pub mod TargetLemmas
+pub mod PrintedLemmas
+pub mod NamedLemmas

@@ -100,15 +100,15 @@ abbrev entry_by_run : ℕ → ℕ → ℕ → Option ℕ
 entry_by_run b i f = option_map (entry_in i f) (run_with b f)
 
 -- a function of the fields of all instances, as a table
-abbrev of_fields : (ℕ → ℕ → ℕ → Option ℕ) → List (List (List (Option ℕ)))
+abbrev pub of_fields : {X : Type 0} → (ℕ → ℕ → ℕ → Option X) → List (List (List (Option X)))
 of_fields F =
     map (λ b. map (λ i. map (F b i) (range_with_len 0 (length (fields_of b)))) (range_with_len 1 (count_of b)))
     (range_with_len 0 12)
 
-of_fields-at : (F : ℕ → ℕ → ℕ → Option ℕ) (b i f : ℕ) → b < 12 → 1 ≤ i → i ≤ count_of b → f < length (fields_of b) → get_or (get_or (get_or (of_fields F) b []) (i - 1) []) f None ≡ F b i f
-of_fields-at F b i f in_blocks from_one in_count in_fields =
-    let of_block : ℕ → List (List (Option ℕ)) = λ n. map (λ i. map (F n i) (range_with_len 0 (length (fields_of n)))) (range_with_len 1 (count_of n)) in
-    let of_instance : ℕ → List (Option ℕ) = λ i. map (F b i) (range_with_len 0 (length (fields_of b))) in
+pub of_fields-at : {X : Type 0} (F : ℕ → ℕ → ℕ → Option X) (b i f : ℕ) → b < 12 → 1 ≤ i → i ≤ count_of b → f < length (fields_of b) → get_or (get_or (get_or (of_fields F) b []) (i - 1) []) f None ≡ F b i f
+of_fields-at {X} F b i f in_blocks from_one in_count in_fields =
+    let of_block : ℕ → List (List (Option X)) = λ n. map (λ i. map (F n i) (range_with_len 0 (length (fields_of n)))) (range_with_len 1 (count_of n)) in
+    let of_instance : ℕ → List (Option X) = λ i. map (F b i) (range_with_len 0 (length (fields_of b))) in
     ap (λ l. get_or (get_or l (i - 1) []) f None) (get_or-map-range_with_len of_block 0 12 b b [] in_blocks (omega arith))
     ∙ ap (λ l. get_or l f None) (get_or-map-range_with_len of_instance 1 (count_of b) (i - 1) i [] (omega arith) (omega arith))
     ∙ get_or-map-range_with_len (F b i) 0 (length (fields_of b)) f f None in_fields (omega arith)

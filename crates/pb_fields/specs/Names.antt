@@ -1,5 +1,5 @@
 -- How the slots are printed.
-use Rattle.std.specs.Prelude.{ℕ, ◌+◌, ◌==◌, List, [], ◌∷◌, ◌++◌, Option, Some, None, if◌then◌else◌}
+use Rattle.std.specs.Prelude.{◌≡◌, ◌⊎◌, ℕ, ◌+◌, ◌==◌, List, [], ◌∷◌, ◌++◌, Option, Some, None, if◌then◌else◌}
 use Rattle.pb_fields.specs.declared.slots.Slot.{Slot}
 use Rattle.pb_fields.specs.declared.types.Attribute.{Attribute}
 use Rattle.pb_fields.specs.Types.{attribute_text}
@@ -24,3 +24,14 @@ abbrev pub target_of : Slot → List ℕ
 target_of slot =
     instance_text slot.block slot.instance ++ 46 ∷ (field_of slot.block slot.field).name
     ++ attribute_end (attribute_at slot)
+
+-- the same with the number 1 after a block with one instance
+abbrev pub numbered_target_of : Slot → List ℕ
+numbered_target_of slot =
+    ((block_of slot.block).name ++ 49 ∷ []) ++ 46 ∷ (field_of slot.block slot.field).name
+    ++ attribute_end (attribute_at slot)
+
+-- a text is a name of the slot: the printed target, or for a block with one instance that with the number 1
+abbrev pub IsNameOf : List ℕ → Slot → Type 0
+IsNameOf text slot =
+    (text ≡ target_of slot) ⊎ ((count_of slot.block ≡ 1) × (text ≡ numbered_target_of slot))

@@ -1,6 +1,6 @@
 -- The order of the slots: a field, then its attributes; the fields of an instance, the instances of a block,
 -- the blocks of the catalogue.
-use Rattle.std.specs.Prelude.{ℕ, ◌+◌, List, length, Option, Some, None, if◌then◌else◌, nat_lt, map}
+use Rattle.std.specs.Prelude.{zero, suc, ◌≡◌, ◌⊎◌, ℕ, ◌+◌, ◌<◌, List, [], ◌∷◌, length, Option, Some, None, if◌then◌else◌, nat_lt, map}
 use Rattle.std.specs.List.{flat_map, range_with_len}
 use Rattle.pb_fields.specs.declared.slots.Slot.{Slot}
 use Rattle.pb_fields.specs.Types.{attributes_of}
@@ -42,3 +42,17 @@ slots_of_block b = flat_map (slots_of_instance b) (range_with_len 1 (count_of b)
 
 unfoldable pub slots : List Slot
 slots = flat_map slots_of_block (range_with_len 0 12)
+
+-- a slot and those that follow it, so many of them at most
+abbrev pub visits : ℕ → Option Slot → List Slot
+visits n None = []
+visits zero (Some slot) = []
+visits (suc n) (Some slot) = slot ∷ visits n (slot_after slot)
+
+-- one slot stands before another
+abbrev pub Precedes : Slot → Slot → Type 0
+Precedes a b =
+    (a.block < b.block)
+    ⊎ ((a.block ≡ b.block) × (a.instance < b.instance))
+    ⊎ ((a.block ≡ b.block) × (a.instance ≡ b.instance) × (a.field < b.field))
+    ⊎ ((a.block ≡ b.block) × (a.instance ≡ b.instance) × (a.field ≡ b.field) × (a.attr < b.attr))

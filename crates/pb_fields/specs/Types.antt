@@ -147,3 +147,22 @@ is_assigned attributes.Units = true
 is_assigned attributes.ExtCapture = true
 is_assigned attributes.Delay = true
 is_assigned _ = false
+
+-- the type as INFO tells it, and where there is one the subtype
+abbrev pub type_text : FieldType → List ℕ
+type_text (types.ParamUint limit) = codes "param uint"
+type_text types.ParamInt = codes "param int"
+type_text types.ParamBit = codes "param bit"
+type_text (types.ParamEnum labels) = codes "param enum"
+type_text types.ParamLut = codes "param lut"
+type_text types.ReadUint = codes "read uint"
+type_text (types.ReadEnum labels) = codes "read enum"
+type_text types.WriteAction = codes "write action"
+type_text (types.Time limit) = codes "time"
+type_text types.BitOut = codes "bit_out"
+type_text types.PosOut = codes "pos_out"
+type_text types.ExtOut = codes "ext_out"
+type_text types.BitWord = codes "ext_out"
+type_text types.BitMux = codes "bit_mux"
+type_text types.PosMux = codes "pos_mux"
+type_text types.Table = codes "table"

@@ -168,7 +168,8 @@ pub fn entry(slot: Slot) -> Option<u8>
 
 /// The output that drives that bus entry; none where the entry is unused.
 pub fn at_entry(entry: u8) -> Option<Slot>
-    ensures { result ≡ at_entry_of entry }
+    ensures output { result ≡ at_entry_of entry }
+    ensures slot { IfSome result (λ slot. IsSlot slot) }
 {
     match run_around(entry) {
         Some(run) => {

@@ -1,28 +1,35 @@
-ghost use Rattle.std.specs.Prelude.{◌≡◌, ◌<◌, ◌≤◌, length, IsOk, IfSome, IfOk, nat_eq, position};
+ghost use Rattle.std.specs.Prelude.{◌≡◌, ◌<◌, ◌≤◌, length, map, IfSome, IfOk, nat_eq, position};
 ghost use Rattle.std.specs.Option.{option_copied};
 ghost use Rattle.std.specs.List.{position_or_len, list_all};
 ghost use Rattle.std.specs.Cmp.Lexicographic.{pointwise};
+ghost use Rattle.std.proofs.Props.{props};
 ghost use Rattle.std.specs.Char.{is_ascii_digit};
 ghost use Rattle.pb_fields.specs.Finding.{is_point, before_point, after_point, block_with, block_named, instance_numbered, field_named, attribute_named, found_of, block_found, number_of, stem_of};
+ghost use Rattle.pb_fields.specs.BlockNames.{block_places, place_named};
 ghost use Rattle.pb_fields.specs.Places.{count_of, fields_of, type_of};
 ghost use Rattle.pb_fields.specs.Slots.{IsSlot};
 ghost use Rattle.pb_fields.specs.Types.{attributes_of, attribute_text};
 
 use crate::slots::Slot;
-use crate::tables::{Block, Field, block_at, blocks, field_at};
+use crate::tables::{Field, block_at, field_at};
 use crate::types::{Attribute, attribute_name, attributes};
+use indexmap::IndexMap;
 use pb_words::{OutOfMemory, Refusal};
 use std::alloc::Global;
 
-/// Finds blocks, fields and attributes by their names.
+/// Finds blocks, fields and attributes by their names. It holds the names of the blocks with their places.
 #[derive(Drop)]
-pub struct Catalog;
+pub struct Catalog {
+    names: IndexMap<&'static [u8], u8>,
+    ghost placed: { map place_named names.entries ≡ block_places } by { Prim.hlevel props },
+}
 
 impl Catalog {
-    pub fn new(_alloc: Global) -> Result<Catalog, OutOfMemory>
-        ensures { IsOk result }
-    {
-        Ok(Catalog)
+    /// The catalogue. This is the one call of the crate that takes memory, and it fails only where there
+    /// is none.
+    pub fn new(alloc: Global) -> Result<Catalog, OutOfMemory> {
+        let names = named_blocks(alloc)?;
+        Ok(Catalog { names })
     }
 
     /// The slot that a target as `LUT1.INPA` or `LUT1.INPA.DELAY` names. The first refusal that fits is
@@ -32,7 +39,7 @@ impl Catalog {
         ensures slot { IfOk result (λ slot. IsSlot slot) }
     {
         let (name, rest) = cut_at_point(target);
-        let Some(block) = block_named(name) else {
+        let Some(block) = self.block_named(name) else {
             return Err(Refusal::NoSuchBlock);
         };
         let Some(instance) = instance_numbered(block_at(block).1, number_of(name)) else {
@@ -61,7 +68,7 @@ impl Catalog {
         ensures found { result ≡ block_found name.now }
         ensures block { IfOk result (λ block. block < 12) }
     {
-        let Some(block) = block_named(name) else {
+        let Some(block) = self.block_named(name) else {
             return Err(Refusal::NoSuchBlock);
         };
         let number = number_of(name);
@@ -73,6 +80,37 @@ impl Catalog {
             None => Err(Refusal::BlockNumberOutOfRange),
         }
     }
+
+    /// The block that is named, with digits after it or with none.
+    fn block_named(&self, name: &[u8]) -> Option<u8>
+        ensures named { result ≡ block_named name.now }
+        ensures block { IfSome result (λ block. block < 12) }
+    {
+        if are_digits(number_of(name)) {
+            self.block_with(&name[..stem_len(name)])
+        } else {
+            None
+        }
+    }
+
+    /// The place of the block with this name.
+    fn block_with(&self, stem: &[u8]) -> Option<u8>
+        ensures named { result ≡ block_with stem.now }
+        ensures block { IfSome result (λ block. block < 12) }
+    {
+        self.names.get(stem).copied()
+    }
+}
+
+/// The names of the blocks with their places.
+fn named_blocks(alloc: Global) -> Result<IndexMap<&'static [u8], u8>, OutOfMemory>
+    ensures { IfOk result (λ names. map place_named names.entries ≡ block_places) }
+{
+    let mut names = IndexMap::with_capacity(alloc, 12)?;
+    for block in 0..12 {
+        names.insert(block_at(block).0, block)?;
+    }
+    Ok(names)
 }
 
 /// What stands before the first point, and what after it, if there is one.
@@ -124,36 +162,6 @@ fn are_digits(number: &[u8]) -> bool
     ensures { result ≡ list_all is_ascii_digit number.now }
 {
     number.iter().all(|b| b.is_ascii_digit())
-}
-
-/// The block that is named, with digits after it or with none.
-fn block_named(name: &[u8]) -> Option<u8>
-    ensures named { result ≡ block_named name.now }
-    ensures block { IfSome result (λ block. block < 12) }
-{
-    if are_digits(number_of(name)) {
-        block_with(&name[..stem_len(name)])
-    } else {
-        None
-    }
-}
-
-/// The place of the block with this name.
-fn block_with(stem: &[u8]) -> Option<u8>
-    ensures named { result ≡ block_with stem.now }
-    ensures block { IfSome result (λ block. block < 12) }
-{
-    match first_block(blocks(), stem) {
-        Some(place) => Some(place as u8),
-        None => None,
-    }
-}
-
-fn first_block(rows: &[Block], name: &[u8]) -> Option<usize>
-    ensures place { result ≡ position (λ row. pointwise nat_eq row.0.now name.now) rows.now }
-    ensures within { IfSome result (λ place. place < length rows.now) }
-{
-    rows.iter().position(|row| row.0 == name)
 }
 
 /// The instance that a number names, where the block has that many.

@@ -25,14 +25,17 @@ pub use entries::{at_entry, entry};
 pub use finding::Catalog;
 pub use kinds::FieldKind;
 pub use labels::label_count;
-pub use laws::labels_are_names;
+pub use laws::{
+    entries_and_outputs_belong_to_each_other, following_visits_every_slot_once, labels_are_names,
+    targets_name_their_slots,
+};
 pub use names::name;
 pub use orders::following;
 pub use roles::Role;
 pub use showing::show;
-pub use slots::{Slot, attribute, block_name, field_type, instances, kind, role};
+pub use slots::{Slot, attribute, block_name, field_name, field_type, instances, kind, role};
 pub use spelling::spell;
-pub use types::{Attribute, FieldType, attribute_name, attributes};
+pub use types::{Attribute, FieldType, attribute_name, attributes, is_assigned, type_name};
 pub use values::{printed_values_are_spelled, texts_are_refused_once, values_are_spelled_once};
 
 #[cfg(test)]

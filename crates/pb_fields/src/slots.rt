@@ -1,5 +1,5 @@
 ghost use Rattle.std.specs.Prelude.{◌≡◌, ◌<◌, ◌≤◌, ◌++◌, length, drop};
-ghost use Rattle.pb_fields.specs.Places.{block_of, count_of};
+ghost use Rattle.pb_fields.specs.Places.{block_of, count_of, field_of};
 ghost use Rattle.pb_fields.specs.Slots.{IsSlot, kind_of, role_at, type_at, attribute_at};
 
 use crate::kinds::FieldKind;
@@ -68,6 +68,14 @@ pub fn field_type(slot: Slot) -> FieldType
     ensures { result ≡ type_at slot }
 {
     field_at(slot.block, slot.field).1
+}
+
+/// The name of the field alone, or of the field that has the attribute.
+pub fn field_name(slot: Slot) -> &'static [u8]
+    requires { IsSlot slot }
+    ensures { result.now ≡ (field_of slot.block slot.field).name }
+{
+    field_at(slot.block, slot.field).0
 }
 
 /// Which attribute it is; none for the field itself.

@@ -220,3 +220,54 @@ fn kinds_and_roles(rt: HostRuntime) -> Result<(), Fail> {
     }
     Ok(())
 }
+
+fn names_its_field(catalog: &Catalog, target: &str) -> bool {
+    match catalog.find(target.as_bytes()) {
+        Ok(slot) => attribute(slot).is_none() && target.as_bytes().ends_with(field_name(slot)),
+        Err(_) => false,
+    }
+}
+
+#[test]
+fn types_and_attributes_are_listed(rt: HostRuntime) -> Result<(), Fail> {
+    let catalog = Catalog::new(rt.alloc())?;
+    let table = [
+        ("DIV1.DIVISOR", "param uint", "INFO MAX "),
+        ("COUNTER1.START", "param int", "INFO "),
+        ("BITS.A", "param bit", "INFO "),
+        ("DIV1.COUNT", "read uint", "INFO "),
+        ("SRGATE1.FORCE_RST", "write action", "INFO "),
+        ("SEQ2.POSC", "pos_mux", "INFO "),
+        ("PCAP.TRIG_EDGE", "param enum", "INFO LABELS "),
+        ("PCOMP1.STATE", "read enum", "INFO LABELS "),
+        ("LUT1.FUNC", "param lut", "INFO RAW "),
+        ("SEQ1.PRESCALE", "time", "INFO UNITS= RAW= "),
+        ("BITS.OUTA", "bit_out", "INFO CAPTURE_WORD OFFSET "),
+        (
+            "COUNTER8.OUT",
+            "pos_out",
+            "INFO CAPTURE= OFFSET= SCALE= UNITS= SCALED ",
+        ),
+        ("PCAP.TS_END", "ext_out", "INFO CAPTURE= "),
+        ("PCAP.BITS3", "ext_out", "INFO CAPTURE= BITS "),
+        ("PCAP.GATE", "bit_mux", "INFO DELAY= MAX_DELAY "),
+        (
+            "SEQ1.TABLE",
+            "table",
+            "INFO MAX_LENGTH LENGTH ROW_WORDS FIELDS B ",
+        ),
+    ];
+    for (target, type_text, list) in table {
+        let slot = catalog.find(target.as_bytes()).ok().ok_or("refused")?;
+        let of = field_type(slot);
+        assert_eq!(rt; type_name(of), type_text.as_bytes(), "at {target}");
+        assert!(rt; names_its_field(&catalog, target), "at {target}");
+        let mut listed = Vec::new(rt.alloc());
+        for attribute in attributes(of) {
+            listed.extend_from_slice(attribute_name(*attribute))?;
+            listed.extend_from_slice(if is_assigned(*attribute) { b"= " } else { b" " })?;
+        }
+        assert_eq!(rt; listed.as_slice(), list.as_bytes(), "at {target}");
+    }
+    Ok(())
+}

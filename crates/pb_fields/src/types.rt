@@ -1,5 +1,5 @@
 ghost use Rattle.std.specs.Prelude.{◌≡◌, ◌≤◌, length};
-ghost use Rattle.pb_fields.specs.Types.{attributes_of, field_kind, role_of, attribute_text, attribute_kind, limit_of};
+ghost use Rattle.pb_fields.specs.Types.{attributes_of, field_kind, role_of, attribute_text, attribute_kind, limit_of, is_assigned, type_text};
 
 use crate::kinds::FieldKind;
 use crate::roles::Role;
@@ -129,6 +129,46 @@ pub fn attribute_name(attribute: Attribute) -> &'static [u8]
         Attribute::RowWords => b"ROW_WORDS",
         Attribute::Fields => b"FIELDS",
         Attribute::Base64 => b"B",
+    }
+}
+
+/// Whether a control line can assign the attribute.
+pub fn is_assigned(attribute: Attribute) -> bool
+    ensures { result ≡ is_assigned attribute }
+{
+    match attribute {
+        Attribute::TimeUnits
+        | Attribute::TimeRaw
+        | Attribute::PosCapture
+        | Attribute::Offset
+        | Attribute::Scale
+        | Attribute::Units
+        | Attribute::ExtCapture
+        | Attribute::Delay => true,
+        _ => false,
+    }
+}
+
+/// The type as INFO tells it, as `param uint` or `bit_out`.
+pub fn type_name(of: FieldType) -> &'static [u8]
+    ensures { result.now ≡ type_text of }
+{
+    match of {
+        FieldType::ParamUint { .. } => b"param uint",
+        FieldType::ParamInt => b"param int",
+        FieldType::ParamBit => b"param bit",
+        FieldType::ParamEnum { .. } => b"param enum",
+        FieldType::ParamLut => b"param lut",
+        FieldType::ReadUint => b"read uint",
+        FieldType::ReadEnum { .. } => b"read enum",
+        FieldType::WriteAction => b"write action",
+        FieldType::Time { .. } => b"time",
+        FieldType::BitOut => b"bit_out",
+        FieldType::PosOut => b"pos_out",
+        FieldType::ExtOut | FieldType::BitWord => b"ext_out",
+        FieldType::BitMux => b"bit_mux",
+        FieldType::PosMux => b"pos_mux",
+        FieldType::Table => b"table",
     }
 }
 
