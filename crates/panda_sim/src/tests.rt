@@ -97,7 +97,12 @@ fn scripts_give_their_output_in_any_pieces(rt: HostRuntime) -> Result<(), Fail> 
         // each refusal, and lines that are skipped
         (
             "# refused\n\n0 C 1\n0 C 1 \n0 C 1 LUT9.OUT?\n0 C 1 LUT1.INPA=TTLIN7.VAL\n0 C 1 LUT1.FUNC=0X1\n0 E\n\n#\n",
-            "0 C 1 22\nERR Malformed command\n0 C 1 22\nERR Malformed command\n0 C 1 22\nERR Malformed command\n0 C 1 18\nERR Unknown label\n0 C 1 20\nERR Malformed value\n",
+            "0 C 1 22\nERR Malformed command\n0 C 1 22\nERR Malformed command\n0 C 1 30\nERR Block number out of range\n0 C 1 18\nERR Unknown label\n0 C 1 20\nERR Malformed value\n",
+        ),
+        // settings and lists of other blocks
+        (
+            "0 C 1 LUT1.FUNC= ~A & B\n0 C 1 LUT1.FUNC?\n0 C 1 CLOCK1.*?\n0 C 1 *ECHO a ?\n0 E\n",
+            "0 C 1 3\nOK\n0 C 1 9\nOK =~A&B\n0 C 1 64\n!ENABLE 0 bit_mux\n!PERIOD 1 time\n!WIDTH 2 time\n!OUT 3 bit_out\n.\n0 C 1 7\nOK =a \n",
         ),
         // numbers with leading zeros and a minus zero
         (

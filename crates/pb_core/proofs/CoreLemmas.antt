@@ -1,40 +1,36 @@
--- One setting changed, one tick, and the ticks that are left.
-use Rattle.std.proofs.Common.{◌≡◌, ℕ, zero, suc, ◌+◌, ◌-◌, ◌<◌, ◌≤◌, max, Bool, List, [], ◌∷◌, ◌++◌, length, get_or, set, take, map, refl, sym, ap, ◌∙◌, arith}
+-- One tick, and the ticks that are left.
+use Rattle.std.proofs.Common.{◌≡◌, ℕ, ℤ, zero, suc, ◌+◌, ◌-◌, ◌<◌, ◌≤◌, max, Bool, List, ◌++◌, take, map, sym, ap, ◌∙◌, arith}
+use Rattle.pb_config.specs.Settings.{Settings}
 use Rattle.pb_core.specs.declared.stimuli.Row.{Row}
 use Rattle.pb_core.specs.declared.boxes.LutSettings.{LutSettings}
 use Rattle.pb_core.specs.declared.boxes.BoxState.{BoxState}
-use Rattle.pb_core.specs.Tick.{inputs_at, selected, lut_next, tick, ticks}
-use Rattle.pb_core.specs.Current.{IsCurrent}
-use Rattle.pb_core.specs.Answer.{CoreState, with_box, with_lut, changed_at, advanced}
-use Rattle.pb_core.proofs.InputLemmas.{inputs_at-front, inputs_at-later}
+use Rattle.pb_core.specs.Tick.{is_high, bus_at, selected, lut_next, tick, ticks}
+use Rattle.pb_core.specs.Core.{CoreState, with_box}
+use Rattle.pb_core.specs.Current.{IsCurrent, values_at}
+use Rattle.pb_core.specs.Answer.{advanced}
+use Rattle.pb_core.proofs.LevelLemmas.{values_at-front, values_at-later, inputs_of_values}
 
--- a write of the changed element
-pub set-changed : {X : Type 0} (change : X → X) (place : ℕ) (xs : List X) (d : X) → place < length xs → set xs place (change (get_or xs place d)) ≡ changed_at change place xs
-set-changed change place [] d h = absurd (omega arith)
-set-changed change zero (x ∷ xs) d h = refl
-set-changed change (suc place) (x ∷ xs) d h = ap (λ rest. x ∷ rest) (set-changed change place xs d (omega arith))
-
--- a LUT written
-pub lut_written : (core : CoreState) (rows : List Row) (box : BoxState) (j : ℕ) (change : LutSettings → LutSettings) (d : LutSettings) → let now : CoreState = record { rows = rows; box = box } in now ≡ core → length box.luts ≡ 8 → 1 ≤ j → j ≤ 8
-    → let after : CoreState = record { rows = rows; box = record { tick = box.tick; luts = set box.luts (j - 1) (change (get_or box.luts (j - 1) d)); outputs = box.outputs } } in after ≡ with_box core (with_lut core.box j change)
-lut_written core rows box j change d e long low high =
-    let f : List LutSettings → CoreState = λ luts. record { rows = rows; box = record { tick = box.tick; luts = luts; outputs = box.outputs } } in
-    ap f (set-changed change (j - 1) box.luts d (omega arith)) ∙ ap (λ (c : CoreState). with_box c (with_lut c.box j change)) e
-
--- the inputs that the next tick begins with
-pub levels_later : (rows same : List Row) (place : ℕ) (inputs : List Bool) (now : ℕ) → IsCurrent rows place inputs now → same ≡ rows → inputs ≡ inputs_at (take place same) (now + 1)
-levels_later rows same place inputs now current e =
+-- the values that the next tick begins with
+pub levels_later : (rows same : List Row) (place : ℕ) (values : List ℤ) (now : ℕ) → IsCurrent rows place values now → same ≡ rows → values ≡ values_at (take place same) (now + 1)
+levels_later rows same place values now current e =
     current.levels
-    ∙ (sym (inputs_at-front rows place now current.coming)
-    ∙ (inputs_at-later (take place rows) now (now + 1) (omega arith) current.past
-    ∙ ap (λ all. inputs_at (take place all) (now + 1)) (sym e)))
+    ∙ (sym (values_at-front rows place now current.coming)
+    ∙ (values_at-later (take place rows) now (now + 1) (omega arith) current.past
+    ∙ ap (λ all. values_at (take place all) (now + 1)) (sym e)))
+
+-- the bit bus, from the values that are kept
+pub bus_of_values : (rows : List Row) (box : BoxState) (values : List ℤ) (bits : List Bool) → values ≡ values_at rows box.tick → bits ≡ map is_high (take 6 values) ++ box.outputs → bits ≡ bus_at rows box
+bus_of_values rows box values bits levels bus =
+    bus
+    ∙ (ap (λ all. map is_high (take 6 all) ++ box.outputs) levels
+    ∙ ap (λ front. front ++ box.outputs) (inputs_of_values rows box.tick))
 
 -- one tick
-pub stepped : (core : CoreState) (rows : List Row) (box : BoxState) (inputs bits outputs : List Bool) → let now : CoreState = record { rows = rows; box = box } in now ≡ core → inputs ≡ inputs_at rows box.tick → bits ≡ inputs ++ box.outputs → outputs ≡ map (λ lut. lut_next lut (map (selected bits) lut.inputs)) box.luts
-    → let after : CoreState = record { rows = rows; box = record { tick = box.tick + 1; luts = box.luts; outputs = outputs } } in after ≡ with_box core (tick core.rows core.box)
-stepped core rows box inputs bits outputs e levels bus next =
-    let f : List Bool → CoreState = λ outs. record { rows = rows; box = record { tick = box.tick + 1; luts = box.luts; outputs = outs } } in
-    ap f (next ∙ ap (λ seen. map (λ lut. lut_next lut (map (selected seen) lut.inputs)) box.luts) (bus ∙ ap (λ front. front ++ box.outputs) levels))
+pub stepped : (core : CoreState) (rows : List Row) (settings : Settings) (box : BoxState) (values : List ℤ) (bits outputs : List Bool) → let now : CoreState = record { rows = rows; settings = settings; box = box } in now ≡ core → values ≡ values_at rows box.tick → bits ≡ map is_high (take 6 values) ++ box.outputs → outputs ≡ map (λ lut. lut_next lut (map (selected bits) lut.inputs)) box.luts
+    → let after : CoreState = record { rows = rows; settings = settings; box = record { tick = box.tick + 1; luts = box.luts; outputs = outputs } } in after ≡ with_box core (tick core.rows core.box)
+stepped core rows settings box values bits outputs e levels bus next =
+    let f : List Bool → CoreState = λ outs. record { rows = rows; settings = settings; box = record { tick = box.tick + 1; luts = box.luts; outputs = outs } } in
+    ap f (next ∙ ap (λ seen. map (λ (lut : LutSettings). lut_next lut (map (selected seen) lut.inputs)) box.luts) (bus_of_values rows box values bits levels bus))
     ∙ ap (λ (c : CoreState). with_box c (tick c.rows c.box)) e
 
 -- the ticks to come after one

@@ -1,6 +1,6 @@
+pub mod BoxLemmas
 pub mod CoreLemmas
-pub mod HexLemmas
-pub mod InputLemmas
+pub mod FieldLemmas
+pub mod LevelLemmas
 pub mod Mapped
-pub mod SameBytes
 pub mod StimulusLemmas

@@ -1,7 +1,6 @@
 -- A list that is filled place by place with the images of another.
-use Rattle.std.proofs.Common.{◌≡◌, ℕ, ◌+◌, ◌<◌, ◌≤◌, List, [], ◌∷◌, ◌++◌, length, get_or, set, take, drop, map, sym, ap, ◌∙◌, arith}
-use Rattle.std.proofs.lemmas.List.{take_more, take_more_set, map-append, take_all, take_at, drop_at, drop_all, append-nil}
-use borrow.Rule.Slice.PartMut.{put_mid, post_of}
+use Rattle.std.proofs.Common.{◌≡◌, ℕ, ◌+◌, ◌<◌, ◌≤◌, List, [], ◌∷◌, ◌++◌, length, get_or, set, take, map, sym, ap, ◌∙◌, arith}
+use Rattle.std.proofs.lemmas.List.{take_more, take_more_set, map-append, take_all}
 
 -- one place further
 pub take-map_more : {X Y : Type 0} (f : X → Y) (xs : List X) (ys : List Y) (i : ℕ) (y : Y) (d : X) → i < length xs → i < length ys → take i ys ≡ map f (take i xs) → y ≡ f (get_or xs i d) → take (i + 1) (set ys i y) ≡ map f (take (i + 1) xs)
@@ -16,9 +15,3 @@ take-map_more f xs ys i y d inside within so_far here =
 pub take-map_all : {X Y : Type 0} (f : X → Y) (xs : List X) (ys : List Y) (n i : ℕ) → length xs ≡ n → length ys ≡ n → n ≤ i → i ≤ n → take i ys ≡ map f (take i xs) → ys ≡ map f xs
 take-map_all f xs ys n i long same over within so_far =
     sym (take_all i ys (omega arith)) ∙ (so_far ∙ ap (map f) (take_all i xs (omega arith)))
-
--- a write over the whole rest of a list
-pub put_mid-all : {X : Type 0} (n k : ℕ) (xs ys zs : List X) → length xs ≡ n → length zs ≡ k → put_mid n k (xs ++ zs) ys ≡ xs ++ ys
-put_mid-all n k xs ys zs front back =
-    let nothing : post_of n k (xs ++ zs) ≡ [] = ap (drop k) (drop_at xs zs n front) ∙ drop_all k zs (omega arith) in
-    rw (take_at xs zs n front) (ap (λ tail. xs ++ (ys ++ tail)) nothing ∙ ap (λ tail. xs ++ tail) (append-nil ys))

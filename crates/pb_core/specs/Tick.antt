@@ -1,21 +1,31 @@
--- The box of six TTL inputs and eight LUTs, and one tick of it.
-use Rattle.std.specs.Prelude.{ℕ, pos, ◌+◌, ◌*◌, ◌==◌, Bool, true, false, not, List, [], ◌∷◌, ◌++◌, map, replicate, slice_index_or, if◌then◌else◌}
+-- The box of six TTL inputs, four encoders and eight LUTs, and one tick of it.
+use Rattle.std.specs.Prelude.{ℕ, ℤ, pos, zero, suc, ◌+◌, ◌-◌, ◌*◌, ◌==◌, ◌&&◌, nat_lt, Bool, true, false, not, List, [], ◌∷◌, ◌++◌, map, replicate, slice_index_or, slice_set, Option, Some, None, if◌then◌else◌}
 use Rattle.std.specs.List.{range_with_len}
 use Rattle.std.specs.Ordering.{int_eq}
 use Rattle.std.specs.Int.{bit_at}
-use Rattle.std.specs.Prelude.{zero, suc}
+use Rattle.pb_fields.specs.declared.Slot.{Slot}
+use Rattle.pb_model.specs.declared.Change.{Change}
+use Rattle.pb_model.specs.declared.Change.TheVariants as changes
 use Rattle.pb_core.specs.declared.stimuli.Row.{Row}
 use Rattle.pb_core.specs.declared.boxes.LutSettings.{LutSettings}
 use Rattle.pb_core.specs.declared.boxes.BoxState.{BoxState}
 use Rattle.pb_core.specs.Stimulus.{value_at}
 
--- the TTL inputs at a tick: high where the value of the stimulus isn't 0
-abbrev pub inputs_at : List Row → ℕ → List Bool
-inputs_at rows tick = map (λ i. not (int_eq (value_at rows i tick) (pos 0))) (range_with_len 0 6)
+-- the value of a target of the stimulus as a level: high where it isn't 0
+abbrev pub is_high : ℤ → Bool
+is_high value = not (int_eq value (pos 0))
 
--- the bit bus at the box's tick, by entry: the TTL inputs, then the outputs of the LUTs
+-- the TTL inputs at a tick
+abbrev pub inputs_at : List Row → ℕ → List Bool
+inputs_at rows tick = map (λ i. is_high (value_at rows i tick)) (range_with_len 0 6)
+
+-- the bit bus at the box's tick, by entry: the TTL inputs, then the outputs of the LUTs; all others are low
 abbrev pub bus_at : List Row → BoxState → List Bool
 bus_at rows box = inputs_at rows box.tick ++ box.outputs
+
+-- the position bus at the box's tick: an entry from 0 to 3 is an encoder, and all others are 0
+abbrev pub position_at : List Row → BoxState → ℕ → ℤ
+position_at rows box entry = if nat_lt entry 4 then value_at rows (6 + entry) box.tick else pos 0
 
 -- what a mux with this selection sees: ONE is 129, ZERO and unused entries are low
 abbrev pub selected : List Bool → ℕ → Bool
@@ -51,3 +61,39 @@ opening_lut = record { inputs = replicate 5 128; function = 0 }
 -- the box as it opens at tick 0
 abbrev pub opening_box : BoxState
 opening_box = record { tick = 0; luts = replicate 8 opening_lut; outputs = replicate 8 false }
+
+-- Changes.
+
+-- the element at this place changed, and no other
+abbrev pub changed_at : {X : Type 0} → (X → X) → ℕ → List X → List X
+changed_at change place [] = []
+changed_at change zero (x ∷ xs) = change x ∷ xs
+changed_at change (suc place) (x ∷ xs) = x ∷ changed_at change place xs
+
+-- LUT j changed, counted from 1
+abbrev pub with_lut : BoxState → ℕ → (LutSettings → LutSettings) → BoxState
+with_lut box j change = record { tick = box.tick; luts = changed_at change (j - 1) box.luts; outputs = box.outputs }
+
+-- input x of the LUT selects this entry
+abbrev pub with_selection : ℕ → ℕ → LutSettings → LutSettings
+with_selection x entry lut = record { inputs = slice_set lut.inputs x entry; function = lut.function }
+
+-- the LUT has this function
+abbrev pub with_function : ℕ → LutSettings → LutSettings
+with_function function lut = record { inputs = lut.inputs; function = function }
+
+-- the LUT with this raw value in a field: 0 to 4 are the inputs A to E, and 5 is the function
+abbrev pub with_field : ℕ → ℕ → LutSettings → LutSettings
+with_field field raw lut =
+    if nat_lt field 5 then with_selection field raw lut
+    else (if field == 5 then with_function raw lut else lut)
+
+-- the box with a setting changed: LUT is block 3, and the other blocks are at rest
+abbrev pub with_setting : BoxState → Slot → ℕ → BoxState
+with_setting box slot raw =
+    if slot.block == 3 && slot.attr == 0 then with_lut box slot.instance (with_field slot.field raw) else box
+
+-- the box after a change, if there is one
+abbrev pub changed : BoxState → Option Change → BoxState
+changed box None = box
+changed box (Some (changes.Set slot raw)) = with_setting box slot raw

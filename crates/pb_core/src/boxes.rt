@@ -1,4 +1,9 @@
-ghost use Rattle.std.specs.Prelude.{◌≡◌, ℕ, ◌+◌, ◌*◌, ◌<◌, ◌^◌, ◌++◌, ◌==◌, List, map, length, take};
+ghost use Rattle.std.specs.Prelude.{◌≡◌, ◌<◌, ◌≤◌, ◌^◌, Some};
+ghost use Rattle.pb_model.specs.Changes.{IsChange, IsSet};
+ghost use Rattle.pb_core.specs.Tick.{changed, with_setting, with_lut, with_field};
+
+use pb_fields::Slot;
+use pb_model::Change;
 
 /// What a LUT is set to.
 #[derive(Clone, Copy, Debug, PartialEq, Eq)]
@@ -18,4 +23,55 @@ pub struct BoxState {
     pub luts: [LutSettings; 8],
     /// The output registers of LUT 1 to 8.
     pub outputs: [bool; 8],
+}
+
+/// The place of LUT among the blocks of the catalogue.
+const LUT: u8 = 3;
+
+impl BoxState {
+    /// Takes a change.
+    pub fn change(&mut self, change: Change)
+        requires { IsChange change }
+        ensures { self.new ≡ changed self.old (Some change) }
+    {
+        match change {
+            Change::Set { slot, raw } => self.set(slot, raw),
+        }
+    }
+
+    /// The setting takes this raw value. The settings of all blocks but LUT change nothing yet.
+    #[tactic(auto, using(crate::proofs::BoxLemmas::instance_few, crate::proofs::BoxLemmas::input_small, crate::proofs::BoxLemmas::function_small))]
+    fn set(&mut self, slot: Slot, raw: u64)
+        requires { IsSet slot raw }
+        ensures { self.new ≡ with_setting self.old slot raw }
+    {
+        if slot.block == LUT && slot.attr == 0 {
+            self.set_lut(slot.instance, slot.field, raw);
+        }
+    }
+
+    /// A field of LUT j, counted from 1, takes this raw value.
+    fn set_lut(&mut self, j: u8, field: u8, raw: u64)
+        requires lut { (1 ≤ j) × (j ≤ 8) }
+        requires selection { field < 5 → raw < 2 ^ 8 }
+        requires function { field ≡ 5 → raw < 2 ^ 32 }
+        ensures { self.new ≡ with_lut self.old j (with_field field raw) }
+    {
+        self.luts[j as usize - 1].set(field, raw);
+    }
+}
+
+impl LutSettings {
+    /// The field takes this raw value: 0 to 4 are the inputs A to E, and 5 is the function.
+    fn set(&mut self, field: u8, raw: u64)
+        requires selection { field < 5 → raw < 2 ^ 8 }
+        requires function { field ≡ 5 → raw < 2 ^ 32 }
+        ensures { self.new ≡ with_field field raw self.old }
+    {
+        match field {
+            0..=4 => self.inputs[field as usize] = raw as u8,
+            5 => self.function = raw as u32,
+            _ => {}
+        }
+    }
 }

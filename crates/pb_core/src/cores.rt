@@ -1,60 +1,76 @@
-ghost use Rattle.std.specs.Prelude.{◌≡◌, ℕ, ◌+◌, ◌<◌, ◌≤◌, ◌^◌, IfOk, OnOk, IfErr, OnErr};
-ghost use Rattle.pb_grammar.specs.Grammar.{command_of, IsTarget};
+ghost use Rattle.std.specs.Prelude.{◌≡◌, ◌+◌, ◌<◌, ◌^◌, IfOk, OnOk, IfErr, OnErr};
+ghost use Rattle.pb_grammar.specs.Grammar.{command_of};
 
-use crate::asking::Asked;
+use crate::assignments::assign;
 use crate::boxes::BoxState;
-use crate::commands::{ask, bit_text, entry, selection_in};
 use crate::events::{Answer, Event};
-use crate::functions::function_in;
 use crate::placing::put_rows;
+use crate::queries::query;
 use crate::steps::{bus, next_outputs, see};
 use crate::stimuli::Stimulus;
-use pb_grammar::Target;
-use pb_words::{OutOfMemory, Refusal, Steps};
+use pb_config::Config;
+use pb_fields::{Catalog, Slot};
+use pb_grammar::{Command, parse};
+use pb_replies::value_reply;
+use pb_words::{OutOfMemory, Steps};
 use std::alloc::Global;
 use std::marker::Model;
 use std::sync::ledger::Ledger;
 
-/// The box and its stimulus, which events drive. A clause sees the rows and the box.
-#[derive(Debug, Drop)]
+/// The box with its settings and its stimulus, which events drive. A clause sees the rows, the settings
+/// and the box.
+#[derive(Drop)]
 pub struct Core {
     alloc: Global,
+    catalog: Catalog,
+    config: Config,
     stimulus: Stimulus,
     /// The place of the first row that comes after the box's tick.
     place: usize,
-    /// The TTL inputs at the box's tick.
-    inputs: [bool; 6],
+    /// The values of the ten targets of the stimulus at the box's tick.
+    values: [i32; 10],
     state: BoxState,
 }
 
 impl Model for Core {
-    ghost use Rattle.pb_core.specs.Answer.{CoreState};
+    ghost use Rattle.pb_core.specs.Core.{CoreState};
     ghost use Rattle.pb_core.specs.Current.{IsCurrent};
 
     ghost Value = { CoreState };
 
-    ghost view = { λ c. record { rows = c.stimulus; box = c.state } };
+    ghost view = { λ c. record { rows = c.stimulus; settings = c.config; box = c.state } };
 
-    ghost invariant = { λ c. IsCurrent c.stimulus c.place c.inputs c.state.tick };
+    ghost invariant = { λ c. IsCurrent c.stimulus c.place c.values c.state.tick };
 }
 
 impl Core {
-    ghost use Rattle.std.specs.Prelude.{List};
-    ghost use Rattle.pb_core.specs.Tick.{tick, ticks, bus_at, selected};
-    ghost use Rattle.pb_core.specs.Answer.{CoreState, opening, with_box, advanced, with_lut, with_selection, with_function, CanHappen, answer, after, said_answer, said_after, assign_answer, assigned, IsReply};
+    ghost use Rattle.pb_fields.specs.Slots.{IsSlot};
+    ghost use Rattle.pb_core.specs.Tick.{tick, bus_at, position_at, selected};
+    ghost use Rattle.pb_core.specs.Core.{CoreState, opening, with_box};
+    ghost use Rattle.pb_core.specs.Assignments.{slot_assigned};
+    ghost use Rattle.pb_core.specs.Answer.{advanced, CanHappen, answer, after, said_answer, said_after, done, left_by, IsReply};
 
-    /// The core as it opens at tick 0.
+    /// The core as it opens at tick 0. Where there is no memory for its catalogue or its settings, the
+    /// stimulus is handed back.
     pub fn new(alloc: Global, stimulus: Stimulus) -> Result<Core, Stimulus>
         ensures ok { IfOk result (λ core. core ≡ opening stimulus) }
         ensures err { IfErr result (λ back. back ≡ stimulus) }
     {
-        let mut inputs = [false; 6];
-        let place = put_rows(stimulus.rows(), 0, &mut inputs, 0);
+        let Ok(catalog) = Catalog::new(alloc) else {
+            return Err(stimulus);
+        };
+        let Ok(config) = Config::new(alloc) else {
+            return Err(stimulus);
+        };
+        let mut values = [0; 10];
+        let place = put_rows(stimulus.rows(), 0, &mut values, 0);
         Ok(Core {
             alloc,
+            catalog,
+            config,
             stimulus,
             place,
-            inputs,
+            values,
             state: crate::steps::opening(),
         })
     }
@@ -89,20 +105,19 @@ impl Core {
         }
     }
 
-    /// One tick.
-    fn step(&mut self)
-        requires { self.old.box.tick + 1 < 2 ^ 62 }
-        ensures { self.new ≡ with_box self.old (tick self.old.rows self.old.box) }
+    /// The answer to a whole command.
+    fn line(&mut self, bytes: &[u8]) -> Result<Answer, OutOfMemory>
+        ensures ok { IfOk result (λ told. told ≡ said_answer self.old (command_of bytes.now)) }
+        ensures core { OnOk result (self.new ≡ said_after self.old (command_of bytes.now)) }
+        ensures err { OnErr result (self.new ≡ self.old) }
+        ensures memory { OnErr result (IsReply (said_answer self.old (command_of bytes.now))) }
     {
-        let bits = bus(&self.inputs, &self.state.outputs);
-        self.state.outputs = next_outputs(&self.state.luts, &bits);
-        self.state.tick += 1;
-        self.place = put_rows(
-            self.stimulus.rows(),
-            self.place,
-            &mut self.inputs,
-            self.state.tick,
-        );
+        match parse(bytes) {
+            Command::Query(target) => query(self, target),
+            Command::Assign(target, value) => Ok(assign(self, target, value)),
+            Command::Echo(text) => Ok(Answer::Reply(value_reply(self.alloc, text)?)),
+            Command::Bad(refusal) => Ok(Answer::Error(refusal)),
+        }
     }
 
     /// The ticks up to this one.
@@ -115,71 +130,67 @@ impl Core {
         }
     }
 
-    /// The bit at this entry of the bus, or what this selection sees.
-    fn bit(&self, entry: u8) -> bool
+    /// One tick.
+    fn step(&mut self)
+        requires { self.old.box.tick + 1 < 2 ^ 62 }
+        ensures { self.new ≡ with_box self.old (tick self.old.rows self.old.box) }
+    {
+        let bits = bus(&self.values, &self.state.outputs);
+        self.state.outputs = next_outputs(&self.state.luts, &bits);
+        self.state.tick += 1;
+        self.place = put_rows(
+            self.stimulus.rows(),
+            self.place,
+            &mut self.values,
+            self.state.tick,
+        );
+    }
+
+    /// The slot takes a value. A value that is refused changes nothing.
+    pub(crate) fn set(&mut self, slot: Slot, value: &[u8]) -> Answer
+        requires { IsSlot slot }
+        ensures answer { result ≡ done (slot_assigned self.old value.now slot) }
+        ensures core { self.new ≡ left_by self.old (slot_assigned self.old value.now slot) }
+    {
+        match self.config.assign(slot, value) {
+            Ok(Some(change)) => {
+                self.state.change(change);
+                Answer::Ok
+            }
+            Ok(None) => Answer::Ok,
+            Err(refusal) => Answer::Error(refusal),
+        }
+    }
+
+    /// The level at this entry of the bit bus.
+    pub(crate) fn level(&self, entry: u8) -> bool
         ensures { result ≡ selected (bus_at self.now.rows self.now.box) entry }
     {
-        see(&bus(&self.inputs, &self.state.outputs), entry)
+        see(&bus(&self.values, &self.state.outputs), entry)
     }
 
-    /// Input x of LUT j, counted from 0 and from 1, selects this entry.
-    fn select(&mut self, j: u8, x: u8, entry: u8)
-        requires lut { (1 ≤ j) × (j ≤ 8) }
-        requires input { x ≤ 4 }
-        ensures { self.new ≡ with_box self.old (with_lut self.old.box j (with_selection x entry)) }
+    /// The value at this entry of the position bus. The encoders come first, and the others are 0.
+    pub(crate) fn position(&self, entry: u8) -> i32
+        ensures { result ≡ position_at self.now.rows self.now.box entry }
     {
-        self.state.luts[(j - 1) as usize].inputs[x as usize] = entry;
-    }
-
-    /// LUT j, counted from 1, has this function.
-    fn set_function(&mut self, j: u8, function: u32)
-        requires lut { (1 ≤ j) × (j ≤ 8) }
-        ensures { self.new ≡ with_box self.old (with_lut self.old.box j (with_function function)) }
-    {
-        self.state.luts[(j - 1) as usize].function = function;
-    }
-
-    /// The answer to a whole command.
-    fn line(&mut self, bytes: &[u8]) -> Result<Answer, OutOfMemory>
-        ensures ok { IfOk result (λ told. told ≡ said_answer self.old (command_of bytes.now)) }
-        ensures core { OnOk result (self.new ≡ said_after self.old (command_of bytes.now)) }
-        ensures err { OnErr result (self.new ≡ self.old) }
-        ensures memory { OnErr result (IsReply (said_answer self.old (command_of bytes.now))) }
-    {
-        match ask(bytes) {
-            Asked::Query(target) => {
-                let text = bit_text(self.alloc, self.bit(entry(target)))?;
-                Ok(Answer::Reply(text))
-            }
-            Asked::Assign(target, value) => Ok(self.assign(target, value)),
-            Asked::Bad(refusal) => Ok(Answer::Error(refusal)),
+        if entry < 4 {
+            self.values[6 + entry as usize]
+        } else {
+            0
         }
     }
 
-    /// The answer to an assignment. A refused one changes nothing.
-    fn assign(&mut self, target: Target, value: &[u8]) -> Answer
-        requires { IsTarget target }
-        ensures answer { result ≡ assign_answer target value.now }
-        ensures core { self.new ≡ with_box self.old (assigned self.old.box target value.now) }
+    pub(crate) fn settings(&self) -> &Config
+        ensures { result.now ≡ self.now.settings }
     {
-        match target {
-            Target::LutInput(j, x) => match selection_in(value) {
-                Some(entry) => {
-                    self.select(j, x, entry);
-                    Answer::Ok
-                }
-                None => Answer::Error(Refusal::UnknownLabel),
-            },
-            Target::LutFunction(j) => match function_in(value) {
-                Some(function) => {
-                    self.set_function(j, function);
-                    Answer::Ok
-                }
-                None => Answer::Error(Refusal::MalformedValue),
-            },
-            Target::InputValue(_) | Target::LutOutput(_) => Answer::Error(
-                Refusal::MalformedCommand,
-            ),
-        }
+        &self.config
+    }
+
+    pub(crate) fn catalog(&self) -> &Catalog {
+        &self.catalog
+    }
+
+    pub(crate) fn alloc(&self) -> Global {
+        self.alloc
     }
 }

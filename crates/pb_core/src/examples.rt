@@ -1,11 +1,11 @@
-ghost use Rattle.std.specs.Prelude.{◌≡◌, ℕ, List, codes};
+ghost use Rattle.std.specs.Prelude.{◌≡◌, codes};
 ghost use Rattle.pb_words.specs.declared.Refusal.TheVariants as refusals;
 ghost use Rattle.pb_core.specs.declared.events.Answer.TheVariants as answers;
 ghost use Rattle.pb_core.specs.Answer.{answer, after};
 ghost use Rattle.pb_core.specs.Examples.{line, told, inverter, toggle};
 
 /// A LUT that inverts an input sees its edge one tick later.
-#[tactic(auto, unfolding(pb_grammar::specs::Grammar::command_of, pb_grammar::specs::Grammar::said_in, pb_grammar::specs::Grammar::named_bit))]
+#[tactic(auto, unfolding(pb_grammar::specs::Grammar::command_of, pb_grammar::specs::Grammar::said_in, pb_grammar::specs::Grammar::is_target, pb_grammar::specs::Grammar::names_in, pb_fields::specs::Catalogue::catalogue, pb_fields::specs::Entries::bit_entries, pb_fields::specs::Labels::bit_names, pb_fields::specs::Spelled::spelled, pb_lut::specs::Computed::function_of, pb_config::specs::Assigning::raw_given, crate::specs::Queries::query_reply, crate::specs::Assignments::assignment))]
 pub fn input_is_seen_one_tick_later()
     ensures output_at_0 { told inverter 0 (codes "LUT1.OUT?\n") ≡ answers.Reply (codes "OK =0\n") }
     ensures output_at_1 { told inverter 1 (codes "LUT1.OUT?\n") ≡ answers.Reply (codes "OK =1\n") }
@@ -16,19 +16,23 @@ pub fn input_is_seen_one_tick_later()
 {}
 
 /// A LUT that inverts its own output changes with each tick.
-#[tactic(auto, unfolding(pb_grammar::specs::Grammar::command_of, pb_grammar::specs::Grammar::said_in, pb_grammar::specs::Grammar::named_bit))]
+#[tactic(auto, unfolding(pb_grammar::specs::Grammar::command_of, pb_grammar::specs::Grammar::said_in, pb_grammar::specs::Grammar::is_target, pb_grammar::specs::Grammar::names_in, pb_fields::specs::Catalogue::catalogue, pb_fields::specs::Entries::bit_entries, pb_fields::specs::Labels::bit_names, pb_fields::specs::Spelled::spelled, pb_lut::specs::Computed::function_of, pb_config::specs::Assigning::raw_given, crate::specs::Queries::query_reply, crate::specs::Assignments::assignment))]
 pub fn lut_of_itself_toggles()
     ensures at_9 { told toggle 9 (codes "LUT1.OUT?\n") ≡ answers.Reply (codes "OK =1\n") }
     ensures at_10 { told toggle 10 (codes "LUT1.OUT?\n") ≡ answers.Reply (codes "OK =0\n") }
 {}
 
 /// A refused line leaves the core as it was.
-#[tactic(auto, unfolding(pb_grammar::specs::Grammar::command_of, pb_grammar::specs::Grammar::said_in, pb_grammar::specs::Grammar::named_bit))]
+#[tactic(auto, unfolding(pb_grammar::specs::Grammar::command_of, pb_grammar::specs::Grammar::said_in, pb_grammar::specs::Grammar::is_target, pb_grammar::specs::Grammar::names_in, pb_fields::specs::Catalogue::catalogue, pb_fields::specs::Entries::bit_entries, pb_fields::specs::Labels::bit_names, pb_fields::specs::Spelled::spelled, pb_lut::specs::Computed::function_of, pb_lut::specs::Computed::expression_of, pb_lut::specs::Computed::tree_at, pb_config::specs::Assigning::raw_given, crate::specs::Queries::query_reply, crate::specs::Assignments::assignment))]
 pub fn refused_lines_change_nothing()
     ensures label { answer inverter (line (codes "LUT1.INPA=TTLIN7.VAL\n")) ≡ answers.Error refusals.UnknownLabel }
     ensures label_kept { after inverter (line (codes "LUT1.INPA=TTLIN7.VAL\n")) ≡ inverter }
     ensures value { answer inverter (line (codes "LUT1.FUNC=0X1\n")) ≡ answers.Error refusals.MalformedValue }
     ensures value_kept { after inverter (line (codes "LUT1.FUNC=0X1\n")) ≡ inverter }
-    ensures command { answer inverter (line (codes "*IDN?\n")) ≡ answers.Error refusals.MalformedCommand }
-    ensures command_kept { after inverter (line (codes "*IDN?\n")) ≡ inverter }
+    ensures number { answer inverter (line (codes "LUT9.OUT?\n")) ≡ answers.Error refusals.BlockNumberOutOfRange }
+    ensures number_kept { after inverter (line (codes "LUT9.OUT?\n")) ≡ inverter }
+    ensures field { answer inverter (line (codes "LUT1.NOPE=1\n")) ≡ answers.Error refusals.NoSuchField }
+    ensures field_kept { after inverter (line (codes "LUT1.NOPE=1\n")) ≡ inverter }
+    ensures output { answer inverter (line (codes "LUT1.OUT=1\n")) ≡ answers.Error refusals.NotWriteable }
+    ensures output_kept { after inverter (line (codes "LUT1.OUT=1\n")) ≡ inverter }
 {}

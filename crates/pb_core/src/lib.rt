@@ -1,18 +1,24 @@
-//! The core: a box at a tick, driven by events, each with its answer.
+//! The core: a box at a tick, driven by events, each with its answer. One event is
+//! defined in `specs/Answer.antt`, by what a query is answered (`specs/Queries.antt`)
+//! and what an assignment leaves (`specs/Assignments.antt`); one tick of the box in
+//! `specs/Tick.antt`.
 #![tactic(auto)]
 
-mod asking;
+mod assignments;
 mod boxes;
-mod commands;
+#[cfg(test)]
+mod command_tests;
 mod cores;
 mod events;
 mod examples;
-mod functions;
 mod placing;
+mod queries;
 mod steps;
 mod stimuli;
+mod targets;
 #[cfg(test)]
 mod tests;
+mod values;
 
 pub use cores::Core;
 pub use events::{Answer, Event};

@@ -1,5 +1,5 @@
-ghost use Rattle.std.specs.Prelude.{◌≡◌, ℕ, ◌+◌, ◌*◌, ◌<◌, ◌^◌, ◌++◌, ◌==◌, List, map, length, take};
-ghost use Rattle.pb_core.specs.Tick.{selected, lut_next, opening_box};
+ghost use Rattle.std.specs.Prelude.{◌≡◌, ◌+◌, ◌++◌, map, take};
+ghost use Rattle.pb_core.specs.Tick.{is_high, selected, lut_next, opening_box};
 
 use crate::boxes::{BoxState, LutSettings};
 
@@ -18,13 +18,24 @@ pub(crate) const fn opening() -> BoxState
 }
 
 /// The bit bus: the TTL inputs, then the outputs of the LUTs.
-pub(crate) fn bus(inputs: &[bool; 6], outputs: &[bool; 8]) -> [bool; 14]
-    ensures { result ≡ inputs.now ++ outputs.now }
+pub(crate) fn bus(values: &[i32; 10], outputs: &[bool; 8]) -> [bool; 14]
+    ensures { result ≡ map is_high (take 6 values.now) ++ outputs.now }
 {
     let mut bits = [false; 14];
-    bits[..6].copy_from_slice(inputs);
+    bits[..6].copy_from_slice(&inputs(values));
     bits[6..].copy_from_slice(outputs);
     bits
+}
+
+/// The TTL inputs: each is high where the value of its target isn't 0.
+fn inputs(values: &[i32; 10]) -> [bool; 6]
+    ensures { result ≡ map is_high (take 6 values.now) }
+{
+    let mut inputs = [false; 6];
+    for i in 0..6 {
+        inputs[i] = values[i] != 0;
+    }
+    inputs
 }
 
 /// What a mux with this selection sees.

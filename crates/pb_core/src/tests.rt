@@ -1,4 +1,4 @@
-ghost use Rattle.std.specs.Prelude.{◌≡◌, ℕ, ◌<◌};
+ghost use Rattle.std.specs.Prelude.{◌≡◌, ◌<◌};
 
 use crate::{Answer, Core, Event, Row, Stimulus};
 use pb_words::{Steps, Text};
@@ -9,33 +9,35 @@ use std::sync::ledger::{Blank, Ledger};
 use std::test::Fail;
 
 /// The box goes up to this tick; then this line is answered by these bytes.
-type Move<'a> = (u64, &'a str, &'a str);
+pub(crate) type Move<'a> = (u64, &'a str, &'a str);
 
 /// A row: its tick, its target and its value.
-type Level = (u64, u8, i32);
+pub(crate) type Level = (u64, u8, i32);
 
-fn stimulus(rt: &impl Abort, alloc: Global, rows: &[Level]) -> Result<Stimulus, Fail> {
+/// The stimulus of these rows.
+pub(crate) fn stimulus(rt: &impl Abort, alloc: Global, rows: &[Level]) -> Result<Stimulus, Fail> {
     let mut stimulus = Stimulus::new(alloc);
     let mut last = 0;
     for (tick, target, value) in rows {
         let (tick, target, value) = (*tick, *target, *value);
         assert!(rt; last <= tick && tick < 1 << 62);
         assert!(rt; target < 10);
-        assert!(rt; value == 0 || value == 1);
+        assert!(rt; 6 <= target || value == 0 || value == 1);
         stimulus.push(tick, target, value)?;
         last = tick;
     }
     Ok(stimulus)
 }
 
-fn told<L: Ledger>(
+/// What this line is answered.
+pub(crate) fn told<L: Ledger>(
     alloc: Global,
     steps: &mut Steps<L>,
     core: &mut Core,
-    line: &str,
+    line: &[u8],
 ) -> Result<Answer, Fail> {
     let mut text = Text::new(alloc);
-    text.append(line.as_bytes())?;
+    text.append(line)?;
     Ok(core.apply(&Event::Line { id: 1, text }, steps)?)
 }
 
@@ -46,13 +48,19 @@ fn reached<L: Ledger>(
     to: u64,
 ) -> Result<Option<u64>, Fail> {
     assert!(rt; to < 1 << 62);
-    match core.apply(&Event::Advance { to }, steps)? {
-        Answer::Reached { tick } => Ok(Some(tick)),
-        Answer::Ok | Answer::Reply(_) | Answer::Error(_) => Ok(None),
+    let answer = core.apply(&Event::Advance { to }, steps)?;
+    Ok(tick_reached(&answer))
+}
+
+fn tick_reached(answer: &Answer) -> Option<u64> {
+    match answer {
+        Answer::Reached { tick } => Some(*tick),
+        Answer::Ok | Answer::Reply(_) | Answer::Error(_) => None,
     }
 }
 
-fn play<L: Ledger>(
+/// Plays the moves on a core of these rows.
+pub(crate) fn play<L: Ledger>(
     rt: &impl Abort,
     alloc: Global,
     blank: Blank,
@@ -72,7 +80,7 @@ fn play<L: Ledger>(
             "at {tick}"
         );
         assert_eq!(rt; core.now(), *tick, "at {tick}");
-        let answer = told(alloc, &mut steps, &mut core, line)?;
+        let answer = told(alloc, &mut steps, &mut core, line.as_bytes())?;
         assert_eq!(rt; answer.bytes(), wanted.as_bytes(), "at {tick} of {line}");
     }
     Ok(())
@@ -147,7 +155,7 @@ fn last_row_of_a_target_counts(rt: HostRuntime) -> Result<(), Fail> {
 }
 
 #[test]
-fn functions_are_hexadecimal(rt: HostRuntime) -> Result<(), Fail> {
+fn functions_are_numbers_or_expressions(rt: HostRuntime) -> Result<(), Fail> {
     play::<Brand>(
         &rt,
         rt.alloc(),
@@ -175,14 +183,15 @@ fn functions_are_hexadecimal(rt: HostRuntime) -> Result<(), Fail> {
             (1, "LUT1.FUNC=0x\n", "ERR Malformed value\n"),
             (1, "LUT1.FUNC=0X0\n", "ERR Malformed value\n"),
             (1, "LUT1.FUNC=0xG\n", "ERR Malformed value\n"),
-            (1, "LUT1.FUNC=0x0 \n", "ERR Malformed value\n"),
             (1, "LUT1.FUNC=x0\n", "ERR Malformed value\n"),
-            (1, "LUT1.FUNC=0\n", "ERR Malformed value\n"),
-            (1, "LUT1.FUNC=A\n", "ERR Malformed value\n"),
             (1, "LUT1.FUNC=\n", "ERR Malformed value\n"),
             (2, "LUT1.OUT?\n", "OK =1\n"),
-            (2, "LUT1.FUNC=0x00\n", "OK\n"),
+            (2, "LUT1.FUNC=0x0 0\n", "OK\n"),
             (3, "LUT1.OUT?\n", "OK =0\n"),
+            (3, "LUT1.FUNC=~A\n", "OK\n"),
+            (4, "LUT1.OUT?\n", "OK =1\n"),
+            (4, "LUT1.FUNC=0\n", "OK\n"),
+            (5, "LUT1.OUT?\n", "OK =0\n"),
         ],
     )
 }
@@ -233,13 +242,14 @@ fn refused_lines_change_nothing(rt: HostRuntime) -> Result<(), Fail> {
             (1, "LUT1.INPA=zero\n", "ERR Unknown label\n"),
             (1, "LUT1.INPA=ZERO \n", "ERR Unknown label\n"),
             (1, "LUT1.INPA=\n", "ERR Unknown label\n"),
-            (1, "LUT1.INPF=ZERO\n", "ERR Malformed command\n"),
-            (1, "LUT1.INPA?\n", "ERR Malformed command\n"),
-            (1, "LUT1.OUT=0\n", "ERR Malformed command\n"),
-            (1, "TTLIN1.VAL=0\n", "ERR Malformed command\n"),
-            (1, "LUT9.OUT?\n", "ERR Malformed command\n"),
-            (1, "*IDN?\n", "ERR Malformed command\n"),
+            (1, "LUT1.INPF=ZERO\n", "ERR No such field\n"),
+            (1, "LUT1.OUT=0\n", "ERR Not writeable\n"),
+            (1, "TTLIN1.VAL=0\n", "ERR Not writeable\n"),
+            (1, "LUT9.OUT?\n", "ERR Block number out of range\n"),
+            (1, "*IDN=0\n", "ERR Not writeable\n"),
             (1, "\n", "ERR Malformed command\n"),
+            (1, "LUT1.INPA?\n", "OK =TTLIN1.VAL\n"),
+            (1, "LUT1.FUNC?\n", "OK =0xFFFF0000\n"),
             (2, "LUT1.OUT?\n", "OK =1\n"),
             (2, "LUT1.INPA=ZERO\n", "OK\n"),
             (2, "LUT1.OUT?\n", "OK =1\n"),
@@ -301,8 +311,8 @@ fn goes_back<L: Ledger>(rt: &impl Abort, alloc: Global, blank: Blank) -> Result<
     let mut steps: Steps<L> = Steps::new(blank);
     let mut core = Core::new(alloc, stimulus(rt, alloc, &[(15, 0, 1)])?)?;
     assert_eq!(rt; core.now(), 0);
-    told(alloc, &mut steps, &mut core, "LUT1.INPA=LUT1.OUT\n")?;
-    told(alloc, &mut steps, &mut core, "LUT1.FUNC=0x0000FFFF\n")?;
+    told(alloc, &mut steps, &mut core, b"LUT1.INPA=LUT1.OUT\n")?;
+    told(alloc, &mut steps, &mut core, b"LUT1.FUNC=0x0000FFFF\n")?;
     assert_eq!(rt; reached(rt, &mut steps, &mut core, 21)?, Some(21));
     for to in [0, 14, 20, 21] {
         assert_eq!(rt;
@@ -312,7 +322,7 @@ fn goes_back<L: Ledger>(rt: &impl Abort, alloc: Global, blank: Blank) -> Result<
         );
         assert_eq!(rt; core.now(), 21, "to {to}");
         for line in ["TTLIN1.VAL?\n", "LUT1.OUT?\n"] {
-            let answer = told(alloc, &mut steps, &mut core, line)?;
+            let answer = told(alloc, &mut steps, &mut core, line.as_bytes())?;
             assert_eq!(rt; answer.bytes(), b"OK =1\n".as_slice(), "to {to}");
         }
     }

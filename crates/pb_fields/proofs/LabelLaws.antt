@@ -91,7 +91,7 @@ bit_selection zero = 128
 bit_selection (suc zero) = 129
 bit_selection (suc (suc i)) = i
 
-bit_entry : (raw : ℕ) → (raw ≡ 128 → ⊥) → (raw ≡ 129 → ⊥) → bit_mux_label raw ≡ slice_get bit_names raw
+pub bit_entry : (raw : ℕ) → (raw ≡ 128 → ⊥) → (raw ≡ 129 → ⊥) → bit_mux_label raw ≡ slice_get bit_names raw
 bit_entry raw h k = rw (ne_eqb raw 128 h, ne_eqb raw 129 k) refl
 
 bit_place : (raw : ℕ) (t : List ℕ) → bit_mux_label raw ≡ Some t → (i : ℕ) × (slice_get bit_labels i ≡ Some t) × (bit_selection i ≡ raw)
@@ -115,7 +115,7 @@ position_selection : ℕ → ℕ
 position_selection zero = 32
 position_selection (suc i) = i
 
-position_entry : (raw : ℕ) → (raw ≡ 32 → ⊥) → position_mux_label raw ≡ slice_get position_names raw
+pub position_entry : (raw : ℕ) → (raw ≡ 32 → ⊥) → position_mux_label raw ≡ slice_get position_names raw
 position_entry raw h = rw (ne_eqb raw 32 h) refl
 
 position_place : (raw : ℕ) (t : List ℕ) → position_mux_label raw ≡ Some t → (i : ℕ) × (slice_get position_labels i ≡ Some t) × (position_selection i ≡ raw)

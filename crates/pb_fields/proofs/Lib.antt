@@ -8,6 +8,7 @@ pub mod ValueLimits
 pub mod ValueHex
 pub mod ValueRanges
 pub mod ValueLaws
+pub mod SpelledLemmas
 pub mod OrderLemmas
 pub mod EntryLaws
 pub mod TargetLemmas

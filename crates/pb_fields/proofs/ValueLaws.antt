@@ -18,7 +18,6 @@ use Rattle.pb_fields.specs.Labels.{label_list, bit_mux_label, position_mux_label
 use Rattle.pb_fields.specs.Values.{Spells, IsMalformed, IsOutOfRange, IsUnknown, Refuses, IsRaw, IsShownKind, shown, HasTicks, IsNoTime, nearest_ticks, tick_size}
 use Rattle.pb_fields.proofs.LabelLaws.{label_once, bit_mux_once, position_mux_once, there_is}
 use Rattle.pb_fields.proofs.ValueHex.{hex_writes}
-use Rattle.pb_fields.proofs.ValueRanges.{read_in_range}
 
 -- One value.
 
@@ -181,6 +180,3 @@ printed_is_spelled (kinds.Time limit units) raw s r f = printed_time limit units
 printed_is_spelled kinds.Lut raw s r f = hex_writes raw r
 printed_is_spelled kinds.Action raw s r f = absurd s
 printed_is_spelled kinds.Text raw s r f = absurd s
-
--- for the reader of a value
-pub ruleset reading = (only_value, read_in_range)

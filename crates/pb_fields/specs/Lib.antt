@@ -12,3 +12,4 @@ pub mod Runs
 pub mod Labels
 pub mod Values
 pub mod Spelling
+pub mod Spelled

@@ -33,10 +33,15 @@ pub use names::name;
 pub use orders::following;
 pub use roles::Role;
 pub use showing::show;
-pub use slots::{Slot, attribute, block_name, field_name, field_type, instances, kind, role};
+pub use slots::{
+    Slot, attribute, block_name, field_count, field_name, field_type, instances, kind, role,
+};
 pub use spelling::spell;
 pub use types::{Attribute, FieldType, attribute_name, attributes, is_assigned, type_name};
-pub use values::{printed_values_are_spelled, texts_are_refused_once, values_are_spelled_once};
+pub use values::{
+    printed_values_are_spelled, selections_are_small, texts_are_refused_once, values_are_computed,
+    values_are_spelled_once, values_by_example,
+};
 
 #[cfg(test)]
 mod tests;

@@ -1,5 +1,6 @@
 ghost use Rattle.std.specs.Prelude.{◌≡◌, ℕ, ◌+◌, ◌<◌, ◌≤◌, List, [], ◌∷◌, ◌++◌, length, take, drop};
 
+use pb_words::put_front;
 use std::marker::Model;
 
 const ROOM: usize = 64;
@@ -54,15 +55,4 @@ impl Line {
     {
         put_front(&self.bytes[..self.len], out)
     }
-}
-
-/// Writes the text at the front of `out`, and answers its length.
-pub(crate) fn put_front(text: &[u8], out: &mut [u8]) -> usize
-    requires { length text.now ≤ length out.old }
-    ensures len { result ≡ length text.now }
-    ensures written { out.new ≡ text.now ++ drop (length text.now) out.old }
-{
-    let n = text.len();
-    out[..n].copy_from_slice(text);
-    n
 }

@@ -1,12 +1,12 @@
 ghost use Rattle.std.specs.Prelude.{◌≡◌, ◌<◌, ◌≤◌, ◌++◌, length, drop};
-ghost use Rattle.pb_fields.specs.Places.{block_of, count_of, field_of};
+ghost use Rattle.pb_fields.specs.Places.{block_of, count_of, field_of, fields_of};
 ghost use Rattle.pb_fields.specs.Slots.{IsSlot, kind_of, role_at, type_at, attribute_at};
 
 use crate::kinds::FieldKind;
-use crate::lines::put_front;
 use crate::roles::Role;
 use crate::tables::{block_at, field_at};
 use crate::types::{Attribute, FieldType, attribute_kind, attributes, field_kind, field_role};
+use pb_words::put_front;
 
 /// One field or one attribute of the catalogue.
 #[derive(Clone, Copy, Debug, PartialEq, Eq)]
@@ -37,6 +37,14 @@ pub fn instances(block: u8) -> u8
     ensures { result ≡ count_of block }
 {
     block_at(block).1
+}
+
+/// How many fields the block has.
+pub fn field_count(block: u8) -> u8
+    requires { block < 12 }
+    ensures { result ≡ length (fields_of block) }
+{
+    block_at(block).2.len() as u8
 }
 
 /// What the value of the field or the attribute is.

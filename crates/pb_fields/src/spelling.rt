@@ -2,6 +2,7 @@ ghost use Rattle.std.specs.Prelude.{◌≡◌, ◌^◌, ◌<◌, ◌≤◌, ℕ,
 ghost use Rattle.std.specs.Int.{w64, cast_unsigned};
 ghost use Rattle.pb_fields.specs.Values.{Spells, Refuses, IsRaw, IsSpelledKind};
 ghost use Rattle.pb_fields.specs.Spelling.{refusal_for};
+ghost use Rattle.pb_fields.specs.Spelled.{spelled};
 
 use crate::kinds::FieldKind;
 use crate::labels::{bit_mux_selection, label_texts, place_of, position_mux_selection};
@@ -13,12 +14,21 @@ use pb_words::{NumFault, Refusal, read_decimal, read_decimal_up_to, read_i32, re
 /// A number, a decimal or a time that isn't written as one is refused as malformed, and so is the
 /// function of a lookup table; one outside its range is refused as out of range, and what is none
 /// of the labels as unknown.
-#[tactic(auto, using(crate::proofs::ValueLaws::reading))]
+#[tactic(auto, using(crate::proofs::SpelledLemmas::reading))]
 pub fn spell(kind: FieldKind, text: &[u8]) -> Result<u64, Refusal>
     requires { IsSpelledKind kind }
     ensures found { IfOk result (Spells kind text.now) }
     ensures range { IfOk result (IsRaw kind) }
     ensures only { (raw : ℕ) → Spells kind text.now raw → result ≡ Ok raw }
+    ensures refused { IfErr result (Refuses kind text.now) }
+    ensures computed { result ≡ spelled kind text.now }
+{
+    read_value(kind, text)
+}
+
+fn read_value(kind: FieldKind, text: &[u8]) -> Result<u64, Refusal>
+    requires { IsSpelledKind kind }
+    ensures found { IfOk result (Spells kind text.now) }
     ensures refused { IfErr result (Refuses kind text.now) }
 {
     match kind {

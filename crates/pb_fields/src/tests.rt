@@ -95,26 +95,27 @@ fn blocks_are_found_with_and_without_a_number(rt: HostRuntime) -> Result<(), Fai
 #[test]
 fn blocks_have_their_names_and_counts(rt: HostRuntime) {
     let table = [
-        ("TTLIN", 6),
-        ("INENC", 4),
-        ("BITS", 1),
-        ("LUT", 8),
-        ("SRGATE", 4),
-        ("DIV", 4),
-        ("PULSE", 4),
-        ("COUNTER", 8),
-        ("CLOCK", 2),
-        ("SEQ", 2),
-        ("PCOMP", 2),
-        ("PCAP", 1),
+        ("TTLIN", 6, 1),
+        ("INENC", 4, 1),
+        ("BITS", 1, 8),
+        ("LUT", 8, 7),
+        ("SRGATE", 4, 9),
+        ("DIV", 4, 7),
+        ("PULSE", 4, 10),
+        ("COUNTER", 8, 9),
+        ("CLOCK", 2, 4),
+        ("SEQ", 2, 21),
+        ("PCOMP", 2, 13),
+        ("PCAP", 1, 13),
     ];
-    for (block, (text, count)) in table.into_iter().enumerate() {
+    for (block, (text, count, fields)) in table.into_iter().enumerate() {
         assert!(rt; block < 12);
         let mut out = [0; 64];
         let len = block_name(block as u8, &mut out);
         assert!(rt; len <= 64);
         assert_eq!(rt; &out[..len], text.as_bytes());
         assert_eq!(rt; instances(block as u8), count, "at {text}");
+        assert_eq!(rt; field_count(block as u8), fields, "at {text}");
     }
 }
 

@@ -1,5 +1,7 @@
-ghost use Rattle.std.specs.Prelude.{ℕ, ◌^◌, List, ◌≡◌, ◌<◌, ◌≤◌, IfSome, IfNone};
-ghost use Rattle.pb_fields.specs.Values.{Spells, Refuses, shown, IsShownKind, IsRaw, tick_size, HasTicks, IsNoTime};
+ghost use Rattle.std.specs.Prelude.{ℕ, ◌^◌, List, codes, ◌≡◌, ◌<◌, ◌≤◌, ◌↔◌, Ok, Err, IfSome, IfNone};
+ghost use Rattle.pb_fields.specs.Values.{Spells, Refuses, shown, IsShownKind, IsSpelledKind, IsRaw, tick_size, HasTicks, IsNoTime};
+ghost use Rattle.pb_fields.specs.Spelled.{spelled};
+ghost use Rattle.pb_fields.specs.Types.{ticks_max};
 
 use crate::kinds::FieldKind;
 use pb_words::Refusal;
@@ -55,4 +57,33 @@ pub fn texts_are_refused_once()
         → Spells kind text raw → ¬ (Refuses kind text refusal) }
     ensures once { (kind : FieldKind) (text : List ℕ) (r s : Refusal)
         → Refuses kind text r → Refuses kind text s → r ≡ s }
+{}
+
+/// The value that a text spells is the computed one, and so is the reason for which it is refused.
+pub fn values_are_computed()
+    ensures value { (kind : FieldKind) (text : List ℕ) (raw : ℕ) → IsSpelledKind kind
+        → Spells kind text raw ↔ (spelled kind text ≡ Ok raw) }
+    ensures refusal { (kind : FieldKind) (text : List ℕ) (refusal : Refusal) → IsSpelledKind kind
+        → Refuses kind text refusal ↔ (spelled kind text ≡ Err refusal) }
+{}
+
+/// What a text means as a value, for a few texts.
+pub fn values_by_example()
+    ensures half_up { spelled (FieldKind.Time ticks_max 0) (codes "0.000000004") ≡ Ok 1 }
+    ensures under_half { spelled (FieldKind.Time ticks_max 0) (codes "0.000000003") ≡ Ok 0 }
+    ensures ten_places { spelled (FieldKind.Time ticks_max 0) (codes "0.0000000041") ≡ Err Refusal.MalformedValue }
+    ensures below_zero { spelled (FieldKind.Time ticks_max 2) (codes "-1") ≡ Err Refusal.ValueOutOfRange }
+    ensures minus_zero { spelled FieldKind.Int (codes "-0") ≡ Ok 0 }
+    ensures minus_one { spelled FieldKind.Int (codes "-1") ≡ Ok 0xffff_ffff_ffff_ffff }
+    ensures function { spelled FieldKind.Lut (codes "~A & B") ≡ Ok 0x0000_ff00 }
+    ensures first_entry { spelled FieldKind.BitMux (codes "TTLIN1.VAL") ≡ Ok 0 }
+    ensures zero_label { spelled FieldKind.BitMux (codes "ZERO") ≡ Ok 128 }
+    ensures no_entry { spelled FieldKind.BitMux (codes "LUT9.OUT") ≡ Err Refusal.UnknownLabel }
+    ensures unit { spelled (FieldKind.Enum 10) (codes "us") ≡ Ok 2 }
+{}
+
+/// The number of what a mux selects fits in a byte.
+pub fn selections_are_small()
+    ensures bits { (raw : ℕ) → IsRaw FieldKind.BitMux raw → raw ≤ 129 }
+    ensures positions { (raw : ℕ) → IsRaw FieldKind.PosMux raw → raw ≤ 32 }
 {}

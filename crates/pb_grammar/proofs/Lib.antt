@@ -1,6 +1,6 @@
-pub mod Finding
+pub mod NameCounts
+pub mod Fronts
 pub mod Lines
-pub mod Lists
-pub mod Names
+pub mod TargetBytes
 pub mod Sayings
-pub mod Texts
+pub mod Meanings

@@ -1,177 +1,144 @@
--- What a text says, as a relation: it says one thing, and the grammar computes it.
-use Rattle.std.proofs.Common.{◌≡◌, ◌≢◌, ℕ, true, false, List, [], ◌∷◌, ◌++◌, codes, get_or, Option, Some, None, MatchOption, refl, ap, ◌∙◌, sym, arith, append_assoc}
-use Rattle.std.specs.Option.{is_some, unwrap_or, option_map_or}
-use Rattle.std.proofs.lemmas.Bool.{true≢false, false≢true}
-use Rattle.std.proofs.lemmas.List.Elements.{All-contains}
+-- What a text says is one thing, and it is computed.
+use Rattle.std.proofs.Common.{◌≡◌, ◌==◌, ◌&&◌, ℕ, ◌+◌, ◌<◌, Bool, true, false, cond, not, ltb, List, [], ◌∷◌, ◌++◌, length, take, drop, position, codes, Option, Some, None, refl, sym, ap, subst, ◌∙◌, arith, length-append, take-append-drop, append_assoc}
+use Rattle.std.specs.List.{list_all, position_or_len}
+use Rattle.std.specs.Option.{option_map_or, option_and_then}
+use Rattle.std.proofs.lemmas.Bool.{cond_both, and_from, and_parts, both_ways, eqb-true, false_from_ne_true, lt-ltb, not-false, not_from_false}
+use Rattle.std.proofs.lemmas.Bool.Decides.{nat_tests}
+use Rattle.std.proofs.lemmas.List.{nil_from_length}
+use Rattle.std.proofs.Math.Seq.{take-append_seam, drop-append_seam}
 use Rattle.pb_words.specs.declared.refusals.Refusal.TheVariants as refusals
-use Rattle.pb_grammar.specs.declared.targets.Target.{Target}
-use Rattle.pb_grammar.specs.Grammar.{Said, Query, Assign, Bad, name, IsTarget, is_queried, queried_targets, assigned_targets, same_bytes, value_given, named_bit, queried_in, assigned_in, said_in}
-use Rattle.pb_grammar.proofs.Finding.{Finds, find_finds}
-use Rattle.pb_grammar.proofs.Lists.{queried_stands, assigned_stands, queried_all, assigned_all}
-use Rattle.pb_grammar.proofs.Names.{one_name, name-injective}
-use Rattle.pb_grammar.proofs.Texts.{same_bytes-Decides, after_front_follows, Follows}
+use Rattle.pb_grammar.specs.Grammar.{Said, Query, Assign, Echo, Bad, Says, after_front, before_end, is_target, is_deciding, echo_in, malformed, decided, decided_at, plainly_said}
+use Rattle.pb_grammar.proofs.Fronts.{Follows, after_front_follows, after_front_of, Precedes, before_end_precedes, before_end_of}
+use Rattle.pb_grammar.proofs.TargetBytes.{is_target_byte, AreTargetBytes, target_bytes}
 
--- a bit that is queried
-abbrev pub IsBit : Target → Type 0
-IsBit target = IsTarget target × (is_queried target ≡ true)
+-- what a sound text says
+abbrev pub saying : List ℕ → Said
+saying text = option_map_or (λ words. Echo words) (echo_in text) (plainly_said text)
 
--- a setting that is assigned
-abbrev pub IsSetting : Target → Type 0
-IsSetting target = IsTarget target × (is_queried target ≡ false)
+-- What is computed is said.
 
--- the bit that is written so is the text, or none is
-abbrev pub Asks : (Target → List ℕ) → List ℕ → Option Target → Type 0
-Asks written text found =
-    MatchOption found ((target : Target) → IsBit target → text ≢ written target) (λ target. IsBit target × (text ≡ written target))
+-- the text says this, or it is malformed
+abbrev pub Speaks : List ℕ → Said → Type 0
+Speaks text (Bad refusal) = refusal ≡ refusals.MalformedCommand
+Speaks text said = Says text said
 
-asks_from_finds : (written : Target → List ℕ) (text : List ℕ) (found : Option Target) → Finds (λ target. same_bytes (written target) text) queried_targets found → Asks written text found
-asks_from_finds written text None h =
-    λ target bit p.
-    let no : same_bytes (written target) text ≡ false = All-contains (λ t. same_bytes (written t) text ≡ false) queried_targets target h (queried_stands target bit.0 bit.1) in
-    false≢true (sym no ∙ (same_bytes-Decides (written target) text).1 (sym p))
-asks_from_finds written text (Some target) h =
-    (All-contains IsBit queried_targets target queried_all h.0, sym ((same_bytes-Decides (written target) text).0 h.1))
+-- what a target says
+abbrev known : List ℕ → ℕ → List ℕ → Said
+known target sign rest =
+    cond (sign == 61) (Assign target rest) (cond (sign == 63 && length rest == 0) (Query target) malformed)
 
--- the bit that the text names
-pub named_bit_asks : (text : List ℕ) → Asks name text (named_bit text)
-unfolding named_bit
-named_bit_asks text = asks_from_finds name text (named_bit text) (find_finds (λ target. same_bytes (name target) text) queried_targets)
+known_speaks : (target : List ℕ) (sign : ℕ) (rest : List ℕ) → is_target target ≡ true → Speaks (target ++ sign ∷ rest) (known target sign rest)
+known_speaks target sign rest is =
+    cond_both (sign == 61) (Assign target rest) (cond (sign == 63 && length rest == 0) (Query target) malformed) (Speaks (target ++ sign ∷ rest))
+    (λ e. (is, ap (λ b. target ++ b ∷ rest) (eqb-true sign 61 e) ∙ sym (append_assoc target (codes "=") rest)))
+    (λ _.
+    cond_both (sign == 63 && length rest == 0) (Query target) malformed (Speaks (target ++ sign ∷ rest))
+    (λ e.
+    let parts = and_parts (sign == 63) (length rest == 0) e in
+    (is, ap (λ b. target ++ b ∷ rest) (eqb-true sign 63 parts.0) ∙ ap (λ t. target ++ 63 ∷ t) (nil_from_length rest (eqb-true (length rest) 0 parts.1))))
+    (λ _. refl))
 
--- the bit that the text queries
-abbrev pub asked : Target → List ℕ
-asked target = name target ++ codes "?"
+decided_speaks : (target : List ℕ) (sign : ℕ) (rest : List ℕ) → Speaks (target ++ sign ∷ rest) (decided target sign rest)
+decided_speaks target sign rest =
+    cond_both (not (is_target target)) malformed (known target sign rest) (Speaks (target ++ sign ∷ rest))
+    (λ _. refl)
+    (λ is. known_speaks target sign rest (not-false (is_target target) is))
 
-pub queried_in_asks : (text : List ℕ) → Asks asked text (queried_in text)
-queried_in_asks text = asks_from_finds asked text (queried_in text) (find_finds (λ target. same_bytes (asked target) text) queried_targets)
+decided_at_speaks : (target behind : List ℕ) → Speaks (target ++ behind) (decided_at target behind)
+decided_at_speaks target [] = refl
+decided_at_speaks target (sign ∷ rest) = decided_speaks target sign rest
 
--- the setting that the text assigns to, and its value
-abbrev pub Sets : List ℕ → Option Target → Type 0
-Sets text found =
-    MatchOption found
-    ((target : Target) (value : List ℕ) → IsSetting target → text ≢ name target ++ codes "=" ++ value)
-    (λ target. IsSetting target × (text ≡ name target ++ codes "=" ++ unwrap_or (value_given target text) []))
+plainly_speaks : (text : List ℕ) (place : Option ℕ) → Speaks text (option_map_or (λ n. decided_at (take n text) (drop n text)) place malformed)
+plainly_speaks text None = refl
+plainly_speaks text (Some n) =
+    subst (λ t. Speaks t (decided_at (take n text) (drop n text))) (take-append-drop n text) (decided_at_speaks (take n text) (drop n text))
 
-given : (target : Target) (text : List ℕ) (found : Option (List ℕ)) → Follows (name target ++ codes "=") text found → is_some found ≡ true → text ≡ name target ++ codes "=" ++ unwrap_or found []
-given target text None h e = absurd (false≢true e)
-given target text (Some value) h e = h
+words_speak : (text rest : List ℕ) → text ≡ codes "*ECHO " ++ rest → (found : Option (List ℕ)) → Precedes (codes "?") rest found → Speaks text (option_map_or (λ words. Echo words) found (plainly_said text))
+words_speak text rest h None p = plainly_speaks text (position is_deciding text)
+words_speak text rest h (Some words) p = h ∙ ap (λ t. codes "*ECHO " ++ t) p
 
-not_given : (target : Target) (text value : List ℕ) (found : Option (List ℕ)) → Follows (name target ++ codes "=") text found → is_some found ≡ false → text ≢ name target ++ codes "=" ++ value
-not_given target text value None h e = h value
-not_given target text value (Some other) h e = absurd (true≢false e)
+echo_speaks : (text : List ℕ) (found : Option (List ℕ)) → Follows (codes "*ECHO ") text found → Speaks text (option_map_or (λ words. Echo words) (option_and_then (before_end (codes "?")) found) (plainly_said text))
+echo_speaks text None p = plainly_speaks text (position is_deciding text)
+echo_speaks text (Some rest) p = words_speak text rest p (before_end (codes "?") rest) (before_end_precedes (codes "?") rest)
 
-sets_from_finds : (text : List ℕ) (found : Option Target) → Finds (λ target. is_some (value_given target text)) assigned_targets found → Sets text found
-sets_from_finds text None h =
-    λ target value setting.
-    not_given target text value (value_given target text) (after_front_follows (name target ++ codes "=") text)
-    (All-contains (λ t. is_some (value_given t text) ≡ false) assigned_targets target h (assigned_stands target setting.0 setting.1))
-sets_from_finds text (Some target) h =
-    (All-contains IsSetting assigned_targets target assigned_all h.0, given target text (value_given target text) (after_front_follows (name target ++ codes "=") text) h.1)
+pub saying_speaks : (text : List ℕ) → Speaks text (saying text)
+saying_speaks text = echo_speaks text (after_front (codes "*ECHO ") text) (after_front_follows (codes "*ECHO ") text)
 
-pub assigned_in_sets : (text : List ℕ) → Sets text (assigned_in text)
-assigned_in_sets text = sets_from_finds text (assigned_in text) (find_finds (λ target. is_some (value_given target text)) assigned_targets)
+-- What is said is computed.
 
--- what the text of a line says
-abbrev pub Says : List ℕ → Said → Type 0
-Says text (Query target) = IsBit target × (text ≡ name target ++ codes "?")
-Says text (Assign target value) = IsSetting target × (text ≡ name target ++ codes "=" ++ value)
-Says text (Bad refusal) =
-    (refusal ≡ refusals.MalformedCommand)
-    × ((target : Target) → IsBit target → text ≢ name target ++ codes "?")
-    × ((target : Target) (value : List ℕ) → IsSetting target → text ≢ name target ++ codes "=" ++ value)
+-- the first that passes stands right behind those that don't
+first-after : {X : Type 0} (p : X → Bool) (xs : List X) (y : X) (ys : List X) → list_all (λ x. not (p x)) xs ≡ true → p y ≡ true → position_or_len p (xs ++ y ∷ ys) ≡ length xs
+first-after p [] y ys h e = ap (λ t. cond (not t) (1 + position_or_len p ys) 0) e
+first-after p (x ∷ xs) y ys h e =
+    let parts = and_parts (not (p x)) (list_all (λ z. not (p z)) xs) h in
+    ap (λ t. cond t (1 + position_or_len p (xs ++ y ∷ ys)) 0) parts.0
+    ∙ ap (λ n. 1 + n) (first-after p xs y ys parts.1 e)
+    ∙ omega arith
 
-says_setting : (text : List ℕ) → ((target : Target) → IsBit target → text ≢ name target ++ codes "?") → (found : Option Target) → Sets text found → Says text (option_map_or (λ target. Assign target (unwrap_or (value_given target text) [])) found (Bad refusals.MalformedCommand))
-says_setting text none None h = (refl, none, h)
-says_setting text none (Some target) h = h
+position-after : {X : Type 0} (p : X → Bool) (xs : List X) (y : X) (ys : List X) → list_all (λ x. not (p x)) xs ≡ true → p y ≡ true → position p (xs ++ y ∷ ys) ≡ Some (length xs)
+position-after {X} p xs y ys h e =
+    let all : List X = xs ++ y ∷ ys in
+    let within : length xs < length all = omega (arith, length-append xs (y ∷ ys)) in
+    ap (λ n. cond {A = Option ℕ} (ltb n (length all)) (Some n) None) (first-after p xs y ys h e)
+    ∙ ap (λ t. cond {A = Option ℕ} t (Some (length xs)) None) (lt-ltb (length xs) (length all) within)
 
-says_any : (text : List ℕ) (found : Option Target) → Asks asked text found → Says text (option_map_or (λ target. Query target) found (option_map_or (λ target. Assign target (unwrap_or (value_given target text) [])) (assigned_in text) (Bad refusals.MalformedCommand)))
-says_any text None h = says_setting text h (assigned_in text) (assigned_in_sets text)
-says_any text (Some target) h = h
+-- a deciding byte isn't one of a target
+deciding_apart : (b : ℕ) → is_deciding b ≡ true → is_target_byte b ≡ false
+deciding_apart b h = grind (arith, nat_tests)
 
--- the grammar computes what the text says
-pub said_in_says : (text : List ℕ) → Says text (said_in text)
-unfolding said_in
-said_in_says text = says_any text (queried_in text) (queried_in_asks text)
+none_decides : (text : List ℕ) → AreTargetBytes text → list_all (λ b. not (is_deciding b)) text ≡ true
+none_decides [] h = refl
+none_decides (b ∷ bs) h =
+    let parts = and_parts (is_target_byte b) (list_all is_target_byte bs) h in
+    and_from (not (is_deciding b)) (list_all (λ c. not (is_deciding c)) bs)
+    (not_from_false (is_deciding b) (false_from_ne_true (is_deciding b) (λ e. both_ways (is_target_byte b) (deciding_apart b e) parts.0)))
+    (none_decides bs parts.1)
 
--- what follows the name of a target
-name_then : (target : Target) (value : List ℕ) → name target ++ codes "=" ++ value ≡ name target ++ (61 ∷ value)
-name_then target value = append_assoc (name target) (codes "=") value
+plainly_decided : (target : List ℕ) (sign : ℕ) (rest : List ℕ) → AreTargetBytes target → is_deciding sign ≡ true → plainly_said (target ++ sign ∷ rest) ≡ decided target sign rest
+plainly_decided target sign rest h e =
+    ap (λ place. option_map_or (λ n. decided_at (take n (target ++ sign ∷ rest)) (drop n (target ++ sign ∷ rest))) place malformed)
+    (position-after is_deciding target sign rest (none_decides target h) e)
+    ∙ ap (λ t. decided_at t (drop (length target) (target ++ sign ∷ rest))) (take-append_seam target (sign ∷ rest))
+    ∙ ap (λ t. decided_at target t) (drop-append_seam target (sign ∷ rest))
 
--- no text is a query and an assignment
-not_both : (a b : Target) (value : List ℕ) → name a ++ codes "?" ≢ name b ++ codes "=" ++ value
-not_both a b value h =
-    omega (arith, ap (λ t. get_or t 0 0) (one_name a b (codes "?") (61 ∷ value) (h ∙ name_then b value)).1)
+-- behind the first elements that pass stands one that doesn't
+one_cut : {X : Type 0} (p : X → Bool) (xs ys : List X) (x y : X) (rs ss : List X) → list_all p xs ≡ true → list_all p ys ≡ true → p x ≡ false → p y ≡ false → xs ++ x ∷ rs ≡ ys ++ y ∷ ss → x ≡ y
+one_cut p [] [] x y rs ss h k e f eq = cc
+one_cut p [] (z ∷ zs) x y rs ss h k e f eq =
+    let same : x ≡ z = cc in
+    absurd (both_ways (p x) e (ap p same ∙ (and_parts (p z) (list_all p zs) k).0))
+one_cut p (z ∷ zs) [] x y rs ss h k e f eq =
+    let same : y ≡ z = cc in
+    absurd (both_ways (p y) f (ap p same ∙ (and_parts (p z) (list_all p zs) h).0))
+one_cut p (w ∷ ws) (z ∷ zs) x y rs ss h k e f eq =
+    one_cut p ws zs x y rs ss (and_parts (p w) (list_all p ws) h).1 (and_parts (p z) (list_all p zs) k).1 e f cc
 
-one_assignment : (a b : Target) (value other : List ℕ) → name a ++ codes "=" ++ value ≡ name b ++ codes "=" ++ other → (a ≡ b) × (value ≡ other)
-one_assignment a b value other h =
-    let same = one_name a b (61 ∷ value) (61 ∷ other) (sym (name_then a value) ∙ h ∙ name_then b other) in
-    let rest : 61 ∷ value ≡ 61 ∷ other = same.1 in
-    (same.0, cc)
+no_echo : (target : List ℕ) (sign : ℕ) (rest : List ℕ) → AreTargetBytes target → is_deciding sign ≡ true → (found : Option (List ℕ)) → Follows (codes "*ECHO ") (target ++ sign ∷ rest) found → found ≡ None
+no_echo target sign rest h e None p = refl
+no_echo target sign rest h e (Some other) p =
+    let space : sign ≡ 32 = one_cut is_target_byte target (codes "*ECHO") sign 32 rest other h refl (deciding_apart sign e) refl p in
+    absurd (both_ways (is_deciding sign) (ap is_deciding space) e)
 
--- a text says one thing
-pub one_saying : (text : List ℕ) (a b : Said) → Says text a → Says text b → a ≡ b
-one_saying text (Query a) (Query b) h k = ap (λ t. Query t) (one_name a b (codes "?") (codes "?") (sym h.1 ∙ k.1)).0
-one_saying text (Query a) (Assign b value) h k = absurd (not_both a b value (sym h.1 ∙ k.1))
-one_saying text (Query a) (Bad refusal) h k = absurd (k.1 a h.0 h.1)
-one_saying text (Assign a value) (Query b) h k = absurd (not_both b a value (sym k.1 ∙ h.1))
-one_saying text (Assign a value) (Assign b other) h k =
-    let same = one_assignment a b value other (sym h.1 ∙ k.1) in
-    let target : a ≡ b = same.0 in
-    let given : value ≡ other = same.1 in
-    cc
-one_saying text (Assign a value) (Bad refusal) h k = absurd (k.2 a value h.0 h.1)
-one_saying text (Bad refusal) (Query b) h k = absurd (h.1 b k.0 k.1)
-one_saying text (Bad refusal) (Assign b other) h k = absurd (h.2 b other k.0 k.1)
-one_saying text (Bad refusal) (Bad other) h k = ap (λ r. Bad r) (h.0 ∙ sym k.0)
+saying_decided : (target : List ℕ) (sign : ℕ) (rest : List ℕ) → is_target target ≡ true → is_deciding sign ≡ true → saying (target ++ sign ∷ rest) ≡ decided target sign rest
+saying_decided target sign rest is e =
+    let bytes = target_bytes target is in
+    let text : List ℕ = target ++ sign ∷ rest in
+    ap (λ found. option_map_or (λ words. Echo words) (option_and_then (before_end (codes "?")) found) (plainly_said text))
+    (no_echo target sign rest bytes e (after_front (codes "*ECHO ") text) (after_front_follows (codes "*ECHO ") text))
+    ∙ plainly_decided target sign rest bytes e
 
--- what the text says is what the grammar computes
-pub said_in_is : (text : List ℕ) (said : Said) → Says text said → said_in text ≡ said
-said_in_is text said h = one_saying text (said_in text) said (said_in_says text) h
+saying_echo : (words : List ℕ) → saying (codes "*ECHO " ++ words ++ codes "?") ≡ Echo words
+saying_echo words =
+    let text : List ℕ = codes "*ECHO " ++ words ++ codes "?" in
+    ap (λ found. option_map_or (λ w. Echo w) (option_and_then (before_end (codes "?")) found) (plainly_said text))
+    (after_front_of (codes "*ECHO ") (words ++ codes "?"))
+    ∙ ap (λ found. option_map_or (λ w. Echo w) found (plainly_said text)) (before_end_of words (codes "?"))
 
--- what follows the name of a bit, and of a setting
-pub said_query : (target : Target) → IsBit target → said_in (name target ++ codes "?") ≡ Query target
-said_query target bit = said_in_is _ (Query target) (bit, refl)
-
-pub said_assign : (target : Target) (value : List ℕ) → IsSetting target → said_in (name target ++ (61 ∷ value)) ≡ Assign target value
-said_assign target value setting = said_in_is _ (Assign target value) (setting, sym (name_then target value))
-
-both_ways : (a b : Target) → a ≡ b → is_queried a ≡ true → is_queried b ≡ false → ⊥
-both_ways a b e h k = true≢false (sym h ∙ ap is_queried e ∙ k)
-
-pub said_not_query : (target : Target) (rest : List ℕ) → IsBit target → rest ≢ codes "?" → said_in (name target ++ rest) ≡ Bad refusals.MalformedCommand
-said_not_query target rest bit other =
-    said_in_is _ (Bad refusals.MalformedCommand) (
-      refl,
-      λ t b p. other (one_name target t rest (codes "?") p).1,
-      λ t value s p. both_ways target t (one_name target t rest (61 ∷ value) (p ∙ name_then t value)).0 bit.1 s.1,
-    )
-
-pub said_not_assign : (target : Target) (rest : List ℕ) → IsSetting target → ((value : List ℕ) → rest ≢ 61 ∷ value) → said_in (name target ++ rest) ≡ Bad refusals.MalformedCommand
-said_not_assign target rest setting other =
-    said_in_is _ (Bad refusals.MalformedCommand) (
-      refl,
-      λ t b p. both_ways t target (sym (one_name target t rest (codes "?") p).0) b.1 setting.1,
-      λ t value s p. other value (one_name target t rest (61 ∷ value) (p ∙ name_then t value)).1,
-    )
-
-pub said_nothing : (text : List ℕ) → ((target : Target) (rest : List ℕ) → IsTarget target → text ≢ name target ++ rest) → said_in text ≡ Bad refusals.MalformedCommand
-said_nothing text none =
-    said_in_is text (Bad refusals.MalformedCommand) (
-      refl,
-      λ t b p. none t (codes "?") b.0 p,
-      λ t value s p. none t (61 ∷ value) s.0 (p ∙ name_then t value),
-    )
-
-one_bit : (text : List ℕ) (target : Target) (found : Option Target) → IsBit target → text ≡ name target → Asks name text found → found ≡ Some target
-one_bit text target None bit p h = absurd (h target bit p)
-one_bit text target (Some other) bit p h = ap (λ t. Some t) (name-injective other target (sym h.1 ∙ p))
-
-no_bit : (text : List ℕ) (found : Option Target) → ((target : Target) → IsBit target → text ≢ name target) → Asks name text found → found ≡ None
-no_bit text None none h = refl
-no_bit text (Some other) none h = absurd (none other h.0 h.1)
-
--- the bit that the text names is the one that the grammar finds
-pub named_bit_is : (text : List ℕ) (target : Target) → IsBit target → text ≡ name target → named_bit text ≡ Some target
-named_bit_is text target bit p = one_bit text target (named_bit text) bit p (named_bit_asks text)
-
-pub named_bit_none : (text : List ℕ) → ((target : Target) → IsBit target → text ≢ name target) → named_bit text ≡ None
-named_bit_none text none = no_bit text (named_bit text) none (named_bit_asks text)
+pub says_saying : (text : List ℕ) (said : Said) → Says text said → saying text ≡ said
+says_saying text (Query target) h =
+    ap saying h.1 ∙ saying_decided target 63 [] h.0 refl ∙ ap (λ t. cond (not t) malformed (Query target)) h.0
+says_saying text (Assign target value) h =
+    ap saying (h.1 ∙ append_assoc target (codes "=") value) ∙ saying_decided target 61 value h.0 refl
+    ∙ ap (λ t. cond (not t) malformed (Assign target value)) h.0
+says_saying text (Echo words) h = ap saying h ∙ saying_echo words
+says_saying text (Bad refusal) h = absurd h

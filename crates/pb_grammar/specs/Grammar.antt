@@ -1,88 +1,136 @@
--- The control grammar of the first path: which bytes are which command.
-use Rattle.std.specs.Prelude.{◌≡◌, ◌≢◌, ℕ, ◌+◌, ◌≤◌, ◌==◌, ◌&&◌, Bool, true, false, List, [], ◌∷◌, ◌++◌, length, map, is_some, All, Option, Some, None, codes, IsTrue, if◌then◌else◌}
-use Rattle.std.specs.List.{range_with_len, flat_map, find}
-use Rattle.std.specs.Option.{option_map, option_map_or, unwrap_or}
+-- The control grammar: which bytes are which command.
+use Rattle.std.specs.Prelude.{◌≡◌, ◌≢◌, ℕ, ◌-◌, ◌≤◌, ◌<◌, ◌==◌, ◌&&◌, ◌||◌, nat_eq, nat_le, nat_lt, not, Bool, true, false, List, [], ◌∷◌, ◌++◌, length, take, drop, position, All, Option, Some, None, codes, IsTrue, if◌then◌else◌}
+use Rattle.std.specs.List.{list_all}
+use Rattle.std.specs.Char.{is_ascii_alphanumeric}
+use Rattle.std.specs.Cmp.Lexicographic.{pointwise}
+use Rattle.std.specs.Option.{option_map, option_map_or, option_and_then}
 use Rattle.pb_words.specs.declared.refusals.Refusal.{Refusal}
 use Rattle.pb_words.specs.declared.refusals.Refusal.TheVariants as refusals
-use Rattle.pb_grammar.specs.declared.targets.Target.{Target}
-use Rattle.pb_grammar.specs.declared.targets.Target.TheVariants as targets
 use Rattle.pb_grammar.specs.declared.commands.Command.{Command}
 use Rattle.pb_grammar.specs.declared.commands.Command.TheVariants as commands
 
--- how a target is written: the block with its number, a point and the field
-abbrev pub name : Target → List ℕ
-name (targets.InputValue i) = codes "TTLIN" ++ (48 + i) ∷ codes ".VAL"
-name (targets.LutOutput j) = codes "LUT" ++ (48 + j) ∷ codes ".OUT"
-name (targets.LutInput j x) = codes "LUT" ++ (48 + j) ∷ codes ".INP" ++ (65 + x) ∷ []
-name (targets.LutFunction j) = codes "LUT" ++ (48 + j) ∷ codes ".FUNC"
-
--- the target exists: TTL inputs 1 to 6, and LUTs 1 to 8 with inputs A to E
-abbrev pub IsTarget : Target → Type 0
-IsTarget (targets.InputValue i) = (1 ≤ i) × (i ≤ 6)
-IsTarget (targets.LutOutput j) = (1 ≤ j) × (j ≤ 8)
-IsTarget (targets.LutInput j x) = (1 ≤ j) × (j ≤ 8) × (x ≤ 4)
-IsTarget (targets.LutFunction j) = (1 ≤ j) × (j ≤ 8)
-
--- bits of the bus are queried, and the settings of a LUT are assigned
-abbrev pub is_queried : Target → Bool
-is_queried (targets.InputValue i) = true
-is_queried (targets.LutOutput j) = true
-is_queried (targets.LutInput j x) = false
-is_queried (targets.LutFunction j) = false
-
--- what a command says
-pub data Said : Type 0 where
-  Query : (target : Target) → Said
-  Assign : (target : Target) (value : List ℕ) → Said
-  Bad : (refusal : Refusal) → Said
+-- Texts.
 
 -- no byte is a newline
 abbrev pub IsText : List ℕ → Type 0
 IsText text = All (λ b. b ≢ 10) text
 
--- the query of this target
-abbrev pub query : Target → List ℕ
-query target = name target ++ codes "?\n"
+-- what follows the front, where the text begins with it
+abbrev pub after_front : List ℕ → List ℕ → Option (List ℕ)
+after_front front text =
+    if pointwise nat_eq (take (length front) text) front then Some (drop (length front) text) else None
 
--- the assignment of this value to this target
-abbrev pub assignment : Target → List ℕ → List ℕ
-assignment target value = name target ++ codes "=" ++ value ++ 10 ∷ []
+-- what stands before the end, where the text ends with it
+abbrev pub before_end : List ℕ → List ℕ → Option (List ℕ)
+before_end end text =
+    if pointwise nat_eq (drop (length text - length end) text) end
+    then Some (take (length text - length end) text)
+    else None
+
+-- Targets.
+
+-- a letter, a digit or `_`
+abbrev pub is_name_byte : ℕ → Bool
+is_name_byte b = is_ascii_alphanumeric b || b == 95
+
+-- one or more of them
+abbrev pub is_name : List ℕ → Bool
+is_name text = nat_lt 0 (length text) && list_all is_name_byte text
+
+-- the byte put before the first piece
+abbrev pub onto_first : ℕ → List (List ℕ) → List (List ℕ)
+onto_first b [] = (b ∷ []) ∷ []
+onto_first b (piece ∷ pieces) = (b ∷ piece) ∷ pieces
+
+-- what stands between the points of a text
+abbrev pub pieces : List ℕ → List (List ℕ)
+pieces [] = [] ∷ []
+pieces (b ∷ bs) = if b == 46 then [] ∷ pieces bs else onto_first b (pieces bs)
+
+-- how many names with points between them the text is; 0 for any other text
+unfoldable pub names_in : List ℕ → ℕ
+names_in text = if list_all is_name (pieces text) then length (pieces text) else 0
+
+-- the number is from low to high
+abbrev pub is_within : ℕ → ℕ → ℕ → Bool
+is_within low high n = nat_le low n && nat_le n high
+
+-- `LUT1.INPA`, or with an attribute `LUT1.INPA.DELAY`
+abbrev pub is_plain_target : List ℕ → Bool
+is_plain_target text = is_within 2 3 (names_in text)
+
+-- what stands before `.*` is the name of a block, or a field
+abbrev pub is_listed : List ℕ → Bool
+is_listed front = is_within 1 2 (names_in front)
+
+-- what stands after `*` is one to four names
+abbrev pub is_star : List ℕ → Bool
+is_star name = is_within 1 4 (names_in name)
+
+-- a field or an attribute; all fields of a block, as `LUT1.*`, or all attributes of a field, as
+-- `LUT1.INPA.*`; or what isn't of a block, as `*IDN`
+unfoldable pub is_target : List ℕ → Bool
+is_target text =
+    option_map_or is_star
+    (after_front (codes "*") text)
+    (option_map_or is_listed (before_end (codes ".*") text) (is_plain_target text))
+
+-- Commands.
+
+-- what a command says, its target and its value as they are written
+pub data Said : Type 0 where
+  Query : (target : List ℕ) → Said
+  Assign : (target : List ℕ) (value : List ℕ) → Said
+  Echo : (text : List ℕ) → Said
+  Bad : (refusal : Refusal) → Said
+
+-- a byte that can be printed, the space among them
+abbrev pub is_printable : ℕ → Bool
+is_printable b = nat_le 32 b && nat_le b 126
+
+-- the greatest number of bytes before the newline
+abbrev pub longest : ℕ
+longest = 4096
+
+-- the text can be that of a line
+pub record IsSound (text : List ℕ) : Type 0 where
+  pub short : length text ≤ longest
+  pub printable : list_all is_printable text ≡ true
+
+-- What the text of a line says, where it says anything.
+abbrev pub Says : List ℕ → Said → Type 0
+-- `LUT1.FUNC?`
+Says text (Query target) = IsTrue (is_target target) × (text ≡ target ++ codes "?")
+-- `LUT1.FUNC=A&B`
+Says text (Assign target value) = IsTrue (is_target target) × (text ≡ target ++ codes "=" ++ value)
+-- `*ECHO Is anybody there?`
+Says text (Echo words) = text ≡ codes "*ECHO " ++ words ++ codes "?"
+Says text (Bad refusal) = ⊥
+
+-- the bytes are a line with this text
+abbrev pub IsLine : List ℕ → List ℕ → Type 0
+IsLine bytes text = IsText text × (bytes ≡ text ++ 10 ∷ [])
+
+-- Why the bytes are no command.
+abbrev pub IsBad : List ℕ → Refusal → Type 0
+IsBad bytes refusals.LineTooLong = (text : List ℕ) × IsLine bytes text × (longest < length text)
+IsBad bytes refusals.NotPrintable =
+    (text : List ℕ) × IsLine bytes text × (length text ≤ longest) × (list_all is_printable text ≡ false)
+-- they are no line, or the text of a line that says nothing
+IsBad bytes refusals.MalformedCommand =
+    (text : List ℕ) → IsLine bytes text → IsSound text × ((said : Said) → ¬ (Says text said))
+IsBad bytes _ = ⊥
+
+-- the bytes are a line of a sound text, and this is what it says
+abbrev pub IsSaid : List ℕ → Said → Type 0
+IsSaid bytes said = (text : List ℕ) × IsLine bytes text × IsSound text × Says text said
 
 -- The bytes of one command, its newline included, and what it says.
 abbrev pub IsCommand : List ℕ → Said → Type 0
-IsCommand bytes (Query target) = IsTarget target × IsTrue (is_queried target) × (bytes ≡ query target)
-IsCommand bytes (Assign target value) =
-    IsTarget target × (is_queried target ≡ false) × IsText value × (bytes ≡ assignment target value)
--- everything else is malformed
-IsCommand bytes (Bad refusal) =
-    (refusal ≡ refusals.MalformedCommand)
-    × ((target : Target) → IsTarget target → IsTrue (is_queried target) → bytes ≢ query target)
-    × ((target : Target) (value : List ℕ) → IsTarget target → is_queried target ≡ false → IsText value → bytes ≢ assignment target value)
+IsCommand bytes (Bad refusal) = IsBad bytes refusal
+IsCommand bytes said = IsSaid bytes said
 
 -- The same, computed.
-
--- the inputs of one LUT
-abbrev pub inputs_of : ℕ → List Target
-inputs_of j = map (λ x. targets.LutInput j x) (range_with_len 0 5)
-
--- what is queried, in the order of the bit bus
-abbrev pub queried_targets : List Target
-queried_targets = map (λ i. targets.InputValue i) (range_with_len 1 6) ++ map (λ j. targets.LutOutput j) (range_with_len 1 8)
-
--- what is assigned
-abbrev pub assigned_targets : List Target
-assigned_targets = flat_map inputs_of (range_with_len 1 8) ++ map (λ j. targets.LutFunction j) (range_with_len 1 8)
-
--- the bytes are the same
-abbrev pub same_bytes : List ℕ → List ℕ → Bool
-same_bytes [] [] = true
-same_bytes [] (c ∷ cs) = false
-same_bytes (b ∷ bs) [] = false
-same_bytes (b ∷ bs) (c ∷ cs) = (b == c) && same_bytes bs cs
-
--- the queried target of this name
-unfoldable pub named_bit : List ℕ → Option Target
-named_bit text = find (λ target. same_bytes (name target) text) queried_targets
 
 -- what stands before the newline, where that is the last byte and the only newline
 abbrev pub line_text : List ℕ → Option (List ℕ)
@@ -92,53 +140,49 @@ line_text (b ∷ bs) =
     then (if length bs == 0 then Some [] else None)
     else option_map (λ text. b ∷ text) (line_text bs)
 
--- what follows the front, where the text begins with it
-abbrev pub after_front : List ℕ → List ℕ → Option (List ℕ)
-after_front [] text = Some text
-after_front (b ∷ bs) [] = None
-after_front (b ∷ bs) (c ∷ cs) = if b == c then after_front bs cs else None
+-- `?`, `=` and `<` decide what a line is
+abbrev pub is_deciding : ℕ → Bool
+is_deciding b = b == 63 || b == 61 || b == 60
 
--- the value that the text assigns to this target
-abbrev pub value_given : Target → List ℕ → Option (List ℕ)
-value_given target text = after_front (name target ++ codes "=") text
+-- what the echo query asks to be said again
+abbrev pub echo_in : List ℕ → Option (List ℕ)
+echo_in text = option_and_then (before_end (codes "?")) (after_front (codes "*ECHO ") text)
 
--- the target that the text queries
-abbrev pub queried_in : List ℕ → Option Target
-queried_in text = find (λ target. same_bytes (name target ++ codes "?") text) queried_targets
+-- nothing that is known
+abbrev pub malformed : Said
+malformed = Bad refusals.MalformedCommand
 
--- the target that the text assigns to
-abbrev pub assigned_in : List ℕ → Option Target
-assigned_in text = find (λ target. is_some (value_given target text)) assigned_targets
+-- what a target says with the deciding byte behind it, and what follows that
+abbrev pub decided : List ℕ → ℕ → List ℕ → Said
+decided target sign rest =
+    if not (is_target target) then malformed
+    else (if sign == 61 then Assign target rest
+    else (if sign == 63 && length rest == 0 then Query target else malformed))
+
+-- the text from the deciding byte on
+abbrev pub decided_at : List ℕ → List ℕ → Said
+decided_at target [] = malformed
+decided_at target (sign ∷ rest) = decided target sign rest
+
+-- what a text says that is no echo query: its first deciding byte decides
+abbrev pub plainly_said : List ℕ → Said
+plainly_said text =
+    option_map_or (λ place. decided_at (take place text) (drop place text)) (position is_deciding text) malformed
 
 -- what the text of a line says
 unfoldable pub said_in : List ℕ → Said
 said_in text =
-    option_map_or (λ target. Query target)
-    (queried_in text)
-    (option_map_or (λ target. Assign target (unwrap_or (value_given target text) [])) (assigned_in text) (Bad refusals.MalformedCommand))
+    if nat_lt longest (length text) then Bad refusals.LineTooLong
+    else (if not (list_all is_printable text) then Bad refusals.NotPrintable
+    else option_map_or (λ words. Echo words) (echo_in text) (plainly_said text))
 
 -- what the bytes of a command say
 unfoldable pub command_of : List ℕ → Said
-command_of bytes = option_map_or said_in (line_text bytes) (Bad refusals.MalformedCommand)
+command_of bytes = option_map_or said_in (line_text bytes) malformed
 
--- the command has its target as it is written
-abbrev pub Means : Command → Said → Type 0
-Means (commands.Query text) (Query target) = text.now ≡ name target
-Means (commands.Query text) (Assign target value) = ⊥
-Means (commands.Query text) (Bad refusal) = ⊥
-Means (commands.Assign text given) (Query target) = ⊥
-Means (commands.Assign text given) (Assign target value) = (text.now ≡ name target) × (given.now ≡ value)
-Means (commands.Assign text given) (Bad refusal) = ⊥
-Means (commands.Bad found) (Query target) = ⊥
-Means (commands.Bad found) (Assign target value) = ⊥
-Means (commands.Bad found) (Bad refusal) = found ≡ refusal
-
--- The target that the command's text names is the one that is said, and there is one.
-abbrev pub Settles : Command → Said → Type 0
-Settles (commands.Query text) said =
-    ((target : Target) → IsTarget target → text.now ≡ name target → (said ≡ Query target) × IsTrue (is_queried target))
-    × (¬ ((target : Target) → IsTarget target → text.now ≢ name target))
-Settles (commands.Assign text given) said =
-    ((target : Target) → IsTarget target → text.now ≡ name target → (said ≡ Assign target given.now) × (is_queried target ≡ false))
-    × (¬ ((target : Target) → IsTarget target → text.now ≢ name target))
-Settles (commands.Bad found) said = said ≡ Bad found
+-- what a command that was read says
+abbrev pub said_of : Command → Said
+said_of (commands.Query target) = Query target.now
+said_of (commands.Assign target value) = Assign target.now value.now
+said_of (commands.Echo text) = Echo text.now
+said_of (commands.Bad refusal) = Bad refusal

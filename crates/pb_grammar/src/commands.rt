@@ -1,9 +1,10 @@
-ghost use Rattle.std.specs.Prelude.{◌≡◌, ◌≢◌, ℕ, List, [], ◌∷◌, ◌++◌, codes, IfSome, IfNone, ◌↔◌};
-ghost use Rattle.pb_grammar.specs.Grammar.{name, IsTarget, Said, Query, Assign, Bad, IsCommand, IsText, said_in, command_of, Means, Settles};
-ghost use Rattle.pb_grammar.specs.declared.targets.Target.TheVariants as targets;
+ghost use Rattle.std.specs.Prelude.{◌≡◌, ℕ, ◌<◌, List, [], ◌∷◌, ◌++◌, length, take, drop, position, codes, IfSome, IsTrue, ◌↔◌};
+ghost use Rattle.std.specs.List.{list_all};
+ghost use Rattle.std.specs.Option.{option_copied};
+ghost use Rattle.pb_grammar.specs.Grammar.{Said, Query, Assign, Echo, Bad, IsCommand, IsText, is_deciding, is_printable, echo_in, decided_at, plainly_said, said_in, command_of, line_text, said_of};
 ghost use Rattle.pb_words.specs.declared.refusals.Refusal.TheVariants as refusals;
 
-use crate::targets::{Target, is_queried, target_at};
+use crate::targets::is_target;
 use pb_words::Refusal;
 
 /// What a client asks.
@@ -13,14 +14,19 @@ pub enum Command<'a> {
     Query(&'a [u8]),
     /// This target is to have this value.
     Assign(&'a [u8], &'a [u8]),
+    /// This text again.
+    Echo(&'a [u8]),
     /// No command, for this reason.
     Bad(Refusal),
 }
 
-/// What these bytes of one command ask, its newline included.
+/// The most bytes of a line before its newline.
+const LONGEST: usize = 4096;
+
+/// What these bytes of one command ask, its newline included. Bytes that are no line are malformed.
+#[tactic(auto, unfolding(crate::specs::Grammar::command_of))]
 pub fn parse(bytes: &[u8]) -> Command<'_>
-    ensures means { Means result (command_of bytes.now) }
-    ensures settles { Settles result (command_of bytes.now) }
+    ensures { said_of result ≡ command_of bytes.now }
 {
     match line_in(bytes) {
         Some(text) => command_in(text),
@@ -30,50 +36,82 @@ pub fn parse(bytes: &[u8]) -> Command<'_>
 
 /// The text before the newline, where that is the last byte and the only newline.
 fn line_in(bytes: &[u8]) -> Option<&[u8]>
-    ensures text { IfSome result (λ text. IsText text.now) }
-    ensures line { IfSome result (λ text. bytes.now ≡ text.now ++ 10 ∷ []) }
-    ensures none { IfNone result ((text : List ℕ) → IsText text → bytes.now ≢ text ++ 10 ∷ []) }
+    ensures { option_copied result ≡ line_text bytes.now }
 {
     let Some(text) = bytes.strip_suffix(b"\n".as_slice()) else {
         return None;
     };
-    if text.iter().all(|b| *b != b'\n') {
-        Some(text)
-    } else {
-        None
-    }
+    if is_text(text) { Some(text) } else { None }
+}
+
+/// Whether no byte is a newline.
+fn is_text(text: &[u8]) -> bool
+    ensures { IsTrue result ↔ IsText text.now }
+{
+    text.iter().all(|b| *b != b'\n')
 }
 
 /// What the text of a line asks.
+#[tactic(auto, unfolding(crate::specs::Grammar::said_in))]
 fn command_in(text: &[u8]) -> Command<'_>
-    ensures { Means result (said_in text.now) }
+    ensures { said_of result ≡ said_in text.now }
 {
-    match target_at(text) {
-        Some((target, rest)) => {
-            let named = &text[..text.len() - rest.len()];
-            command_on(target, named, rest)
-        }
+    if text.len() > LONGEST {
+        return Command::Bad(Refusal::LineTooLong);
+    }
+    if !is_printable(text) {
+        return Command::Bad(Refusal::NotPrintable);
+    }
+    match echo_in(text) {
+        Some(words) => Command::Echo(words),
+        None => plain_command(text),
+    }
+}
+
+fn is_printable(text: &[u8]) -> bool
+    ensures { result ≡ list_all is_printable text.now }
+{
+    text.iter().all(|b| b' ' <= *b && *b <= b'~')
+}
+
+/// What the echo query asks to be said again.
+fn echo_in(text: &[u8]) -> Option<&[u8]>
+    ensures { option_copied result ≡ echo_in text.now }
+{
+    text.strip_prefix(b"*ECHO ".as_slice())?
+        .strip_suffix(b"?".as_slice())
+}
+
+/// What a text asks that is no echo query.
+fn plain_command(text: &[u8]) -> Command<'_>
+    ensures { said_of result ≡ plainly_said text.now }
+{
+    match deciding_place(text) {
+        Some(place) => decided(&text[..place], &text[place..]),
         None => Command::Bad(Refusal::MalformedCommand),
     }
 }
 
-/// What the text asks of the target that it begins with, by what follows the name.
-fn command_on<'a>(target: Target, named: &'a [u8], rest: &'a [u8]) -> Command<'a>
-    requires target { IsTarget target }
-    requires named { named.now ≡ name target }
-    ensures { Means result (said_in (name target ++ rest.now)) }
+/// The place of the first byte that decides what the line is.
+fn deciding_place(text: &[u8]) -> Option<usize>
+    ensures place { result ≡ position is_deciding text.now }
+    ensures within { IfSome result (λ place. place < length text.now) }
 {
-    if is_queried(target) {
-        if rest == b"?".as_slice() {
-            Command::Query(named)
-        } else {
-            Command::Bad(Refusal::MalformedCommand)
-        }
-    } else {
-        match rest.strip_prefix(b"=".as_slice()) {
-            Some(value) => Command::Assign(named, value),
-            None => Command::Bad(Refusal::MalformedCommand),
-        }
+    text.iter()
+        .position(|b| *b == b'?' || *b == b'=' || *b == b'<')
+}
+
+/// What a target says with what stands behind it.
+fn decided<'a>(target: &'a [u8], behind: &'a [u8]) -> Command<'a>
+    ensures { said_of result ≡ decided_at target.now behind.now }
+{
+    if !is_target(target) {
+        return Command::Bad(Refusal::MalformedCommand);
+    }
+    match behind {
+        [b'=', value @ ..] => Command::Assign(target, value),
+        [b'?'] => Command::Query(target),
+        _ => Command::Bad(Refusal::MalformedCommand),
     }
 }
 
@@ -83,19 +121,27 @@ pub fn commands_have_one_meaning()
 {}
 
 /// Commands and what they say, worked by hand.
-#[tactic(auto, unfolding(crate::specs::Grammar::command_of, crate::specs::Grammar::said_in))]
+#[tactic(auto, unfolding(crate::specs::Grammar::command_of, crate::specs::Grammar::said_in, crate::specs::Grammar::is_target, crate::specs::Grammar::names_in))]
 pub fn commands_by_example()
-    ensures function { command_of (codes "LUT1.FUNC=0x0000FFFF\n") ≡ Assign (targets.LutFunction 1) (codes "0x0000FFFF") }
-    ensures input { command_of (codes "LUT8.INPE=LUT1.OUT\n") ≡ Assign (targets.LutInput 8 4) (codes "LUT1.OUT") }
-    ensures output { command_of (codes "LUT8.OUT?\n") ≡ Query (targets.LutOutput 8) }
-    ensures value { command_of (codes "TTLIN6.VAL?\n") ≡ Query (targets.InputValue 6) }
-    ensures no_such_input { command_of (codes "TTLIN7.VAL?\n") ≡ Bad refusals.MalformedCommand }
-    ensures no_query { command_of (codes "LUT1.FUNC?\n") ≡ Bad refusals.MalformedCommand }
-    ensures no_assignment { command_of (codes "TTLIN1.VAL=1\n") ≡ Bad refusals.MalformedCommand }
+    ensures function { command_of (codes "LUT1.FUNC=0x0000FFFF\n") ≡ Assign (codes "LUT1.FUNC") (codes "0x0000FFFF") }
+    ensures spaces { command_of (codes "LUT1.FUNC= ~A & B\n") ≡ Assign (codes "LUT1.FUNC") (codes " ~A & B") }
+    ensures output { command_of (codes "LUT8.OUT?\n") ≡ Query (codes "LUT8.OUT") }
+    ensures attribute { command_of (codes "LUT1.INPA.DELAY=3\n") ≡ Assign (codes "LUT1.INPA.DELAY") (codes "3") }
+    ensures fields { command_of (codes "LUT1.*?\n") ≡ Query (codes "LUT1.*") }
+    ensures attributes { command_of (codes "LUT1.INPA.*?\n") ≡ Query (codes "LUT1.INPA.*") }
+    ensures star { command_of (codes "*ENUMS.LUT1.INPA?\n") ≡ Query (codes "*ENUMS.LUT1.INPA") }
+    ensures echo { command_of (codes "*ECHO a = b? \"c\" ?\n") ≡ Echo (codes "a = b? \"c\" ") }
+    ensures no_echo { command_of (codes "*ECHO?\n") ≡ Query (codes "*ECHO") }
+    ensures unknown { command_of (codes "lut1.OUT?\n") ≡ Query (codes "lut1.OUT") }
     ensures empty { command_of (codes "\n") ≡ Bad refusals.MalformedCommand }
     ensures no_newline { command_of (codes "LUT8.OUT?") ≡ Bad refusals.MalformedCommand }
     ensures two_lines { command_of (codes "LUT1.FUNC=A\nLUT1.FUNC=B\n") ≡ Bad refusals.MalformedCommand }
-    ensures question { command_of (codes "LUT1.FUNC=x?\n") ≡ Assign (targets.LutFunction 1) (codes "x?") }
-    ensures second_sign { command_of (codes "LUT1.FUNC=A=B\n") ≡ Assign (targets.LutFunction 1) (codes "A=B") }
-    ensures no_value { command_of (codes "LUT1.FUNC=\n") ≡ Assign (targets.LutFunction 1) [] }
+    ensures not_printable { command_of (codes "LUT1.OUT?\t\n") ≡ Bad refusals.NotPrintable }
+    ensures no_field { command_of (codes "LUT1?\n") ≡ Bad refusals.MalformedCommand }
+    ensures many_parts { command_of (codes "*ENUMS.A.B.C.D?\n") ≡ Bad refusals.MalformedCommand }
+    ensures behind { command_of (codes "LUT1.OUT?x\n") ≡ Bad refusals.MalformedCommand }
+    ensures table { command_of (codes "SEQ1.TABLE<\n") ≡ Bad refusals.MalformedCommand }
+    ensures question { command_of (codes "LUT1.FUNC=x?\n") ≡ Assign (codes "LUT1.FUNC") (codes "x?") }
+    ensures second_sign { command_of (codes "LUT1.FUNC=A=B\n") ≡ Assign (codes "LUT1.FUNC") (codes "A=B") }
+    ensures no_value { command_of (codes "LUT1.FUNC=\n") ≡ Assign (codes "LUT1.FUNC") [] }
 {}

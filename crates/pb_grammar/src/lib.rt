@@ -1,12 +1,11 @@
-//! Control lines of the first path: what a client sends, a query of a bit or the
-//! assignment of a LUT's setting, and everything else refused as malformed.
+//! Control lines: which bytes are a query, an assignment or an echo query, and why
+//! other bytes are refused. What they are stands in `specs/Grammar.antt`.
 #![tactic(auto)]
 
 mod commands;
 mod targets;
 
 pub use commands::{Command, commands_by_example, commands_have_one_meaning, parse};
-pub use targets::{Target, bit_named, target_named};
 
 #[cfg(test)]
 mod tests;

@@ -15,7 +15,7 @@ use Rattle.pb_lut.proofs.ReadingLemmas.{cut, print-injective}
 pub at_end : Ends ors []
 at_end = (λ h. h, λ h. h, λ h. h)
 
-alone : (text : List ℕ) (t : Tree ors) → text ≡ print t → text ≡ print t ++ []
+pub alone : (text : List ℕ) (t : Tree ors) → text ≡ print t → text ≡ print t ++ []
 alone text t e = e ∙ sym (append-nil (print t))
 
 pub WritesExpression-read : {text rest : List ℕ} {n : ℕ} → Reads ors text n rest → length rest ≡ 0 → WritesExpression text n

@@ -1,3 +1,4 @@
 pub mod ExpressionLemmas
 pub mod ReadingLemmas
 pub mod FunctionLemmas
+pub mod ComputedLemmas

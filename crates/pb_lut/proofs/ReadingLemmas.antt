@@ -6,7 +6,7 @@ use Rattle.std.proofs.lemmas.Bool.Decides.{nat_tests}
 use Rattle.pb_lut.specs.Expressions.{Level, Letter, input_a, input_b, input_c, input_d, input_e, zero_bit, one_bit, Tree, ors, xors, ands, nots, atoms, only_xor, or_of, only_and, xor_of, only_not, and_of, only_atom, not_of, letter, parens, code_of, print, number, letter_number}
 use Rattle.pb_lut.specs.Readings.{BeginsWith, Ends, Reads, ReadsNothing, letter_of}
 
-letter_of-code : (y : Letter) → letter_of (code_of y) ≡ Some y
+pub letter_of-code : (y : Letter) → letter_of (code_of y) ≡ Some y
 letter_of-code input_a = refl
 letter_of-code input_b = refl
 letter_of-code input_c = refl
@@ -23,7 +23,7 @@ same_letter : (x y : Letter) → code_of x ≡ code_of y → x ≡ y
 same_letter x y h =
     let found = sym (letter_of-code x) ∙ ap letter_of h ∙ letter_of-code y in cc
 
-code-ge : (y : Letter) → 48 ≤ code_of y
+pub code-ge : (y : Letter) → 48 ≤ code_of y
 code-ge input_a = omega arith
 code-ge input_b = omega arith
 code-ge input_c = omega arith
@@ -32,7 +32,7 @@ code-ge input_e = omega arith
 code-ge zero_bit = omega arith
 code-ge one_bit = omega arith
 
-code-le : (y : Letter) → code_of y ≤ 69
+pub code-le : (y : Letter) → code_of y ≤ 69
 code-le input_a = omega arith
 code-le input_b = omega arith
 code-le input_c = omega arith
@@ -42,10 +42,10 @@ code-le zero_bit = omega arith
 code-le one_bit = omega arith
 
 -- an operator between two expressions, seen from the first one's end
-joined : (a b rest : List ℕ) (c : ℕ) → (a ++ c ∷ [] ++ b) ++ rest ≡ a ++ c ∷ (b ++ rest)
+pub joined : (a b rest : List ℕ) (c : ℕ) → (a ++ c ∷ [] ++ b) ++ rest ≡ a ++ c ∷ (b ++ rest)
 joined a b rest c = simp append_assoc
 
-first_same : (xs ys : List ℕ) → xs ≡ ys → get_or xs 0 0 ≡ get_or ys 0 0
+pub first_same : (xs ys : List ℕ) → xs ≡ ys → get_or xs 0 0 ≡ get_or ys 0 0
 first_same xs ys e = ap (λ zs. get_or zs 0 0) e
 
 rest_same : (c d : ℕ) (xs ys : List ℕ) → c ∷ xs ≡ d ∷ ys → xs ≡ ys
@@ -61,13 +61,13 @@ atom_begins (letter y) x rest e = omega (arith, code-le y, first_same (code_of y
 atom_begins (parens t) x rest e = omega (arith, first_same (40 ∷ ((print t ++ 41 ∷ []) ++ x)) (126 ∷ rest) e)
 
 -- an operator ends what binds tighter, and a bracket ends all
-bar_ends : (rest : List ℕ) → Ends xors (124 ∷ rest)
+pub bar_ends : (rest : List ℕ) → Ends xors (124 ∷ rest)
 bar_ends rest = (λ h. omega (arith, h), λ h. omega (arith, h))
 
-hat_ends : (rest : List ℕ) → Ends ands (94 ∷ rest)
+pub hat_ends : (rest : List ℕ) → Ends ands (94 ∷ rest)
 hat_ends rest = λ h. omega (arith, h)
 
-bracket_ends : (rest : List ℕ) → Ends ors (41 ∷ rest)
+pub bracket_ends : (rest : List ℕ) → Ends ors (41 ∷ rest)
 bracket_ends rest = (λ h. omega (arith, h), λ h. omega (arith, h), λ h. omega (arith, h))
 
 -- a text is an expression and a rest in one way only, where the rest doesn't go on with the expression

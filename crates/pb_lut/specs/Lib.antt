@@ -1,3 +1,4 @@
 pub mod Expressions
 pub mod Functions
 pub mod Readings
+pub mod Computed

@@ -1,7 +1,9 @@
 ghost use Rattle.std.specs.Prelude.{◌≡◌, ◌≢◌, ℕ, ◌<◌, ◌≤◌, ◌++◌, ◌⊎◌, List, Ok, length, take, drop, codes, IfOk, IfErr, IfSome, IfNone};
 ghost use Rattle.std.specs.Char.{digit_value};
 ghost use Rattle.std.specs.Option.{SomeIff};
+ghost use Rattle.std.specs.Result.{result_ok};
 ghost use Rattle.pb_lut.specs.Functions.{without_spaces, WritesHexDigits, WritesHex, WritesExpression, WritesFunction};
+ghost use Rattle.pb_lut.specs.Computed.{function_of};
 
 use crate::expressions::{after_byte, read_ors};
 use pb_words::Refusal;
@@ -18,6 +20,7 @@ pub fn parse(text: &[u8]) -> Result<u32, Refusal>
     ensures found { IfOk result (WritesFunction text.now) }
     ensures only { (n : ℕ) → WritesFunction text.now n → result ≡ Ok n }
     ensures refused { IfErr result (λ refusal. refusal ≡ Refusal.MalformedValue) }
+    ensures computed { result_ok result ≡ function_of text.now }
 {
     if text.len() > ROOM {
         return Err(Refusal::MalformedValue);

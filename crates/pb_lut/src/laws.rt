@@ -1,7 +1,8 @@
-ghost use Rattle.std.specs.Prelude.{◌≡◌, ℕ, ◌^◌, ◌<◌, List, codes};
+ghost use Rattle.std.specs.Prelude.{◌≡◌, ℕ, ◌^◌, ◌<◌, ◌↔◌, List, Some, None, codes};
 ghost use Rattle.std.specs.Int.{bit_at};
 ghost use Rattle.pb_lut.specs.Expressions.{Tree, ors, Inputs, print, value, bit, place, number};
 ghost use Rattle.pb_lut.specs.Functions.{WritesFunction};
+ghost use Rattle.pb_lut.specs.Computed.{function_of};
 
 /// The number of an expression has 32 bits, and each is the expression's value at one state of the inputs.
 pub fn each_bit_is_a_value()
@@ -27,4 +28,20 @@ pub fn worked_numbers()
     ensures tighter_first { WritesFunction (codes "A|B^C&~D") 0xffff_cf30 }
     ensures brackets_first { WritesFunction (codes "(A|B)&C") 0xf0f0_f000 }
     ensures digits { WritesFunction (codes "0 x fF") 0xff }
+{}
+
+/// The number that a text gives is the computed one, and of a text that gives none, none is computed.
+pub fn functions_are_computed()
+    ensures { (text : List ℕ) (n : ℕ) → WritesFunction text n ↔ (function_of text ≡ Some n) }
+{}
+
+/// The computed numbers of a few texts.
+pub fn computed_numbers()
+    ensures tilde_first { function_of (codes "~A & B") ≡ Some 0x0000_ff00 }
+    ensures tighter_first { function_of (codes "A|B^C&~D") ≡ Some 0xffff_cf30 }
+    ensures brackets_first { function_of (codes "(A|B)&C") ≡ Some 0xf0f0_f000 }
+    ensures digits { function_of (codes "0 x fF") ≡ Some 0xff }
+    ensures unclosed { function_of (codes "(A|B") ≡ None }
+    ensures two_letters { function_of (codes "A B") ≡ None }
+    ensures nine_digits { function_of (codes "0x000000001") ≡ None }
 {}

@@ -8,4 +8,7 @@ mod functions;
 mod laws;
 
 pub use functions::parse;
-pub use laws::{each_bit_is_a_value, one_number, one_reading, worked_numbers};
+pub use laws::{
+    computed_numbers, each_bit_is_a_value, functions_are_computed, one_number, one_reading,
+    worked_numbers,
+};

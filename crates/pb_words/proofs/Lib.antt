@@ -6,3 +6,4 @@ pub mod DecimalLemmas
 pub mod SignedReadBack
 pub mod PlaceValues
 pub mod DecimalReadBack
+pub mod ComputedLemmas

@@ -1,5 +1,5 @@
 -- A text is cut into its sign and its digits in one way, and so read in one way.
-use Rattle.std.proofs.Common.{◌≡◌, ℕ, zero, suc, ◌<◌, List, [], ◌∷◌, ◌++◌, All, ℤ, FitsSigned, Ok, Err, sym, ap, subst, ◌∙◌, arith}
+use Rattle.std.proofs.Common.{◌≡◌, ℕ, zero, suc, ◌<◌, ◌≤◌, List, [], ◌∷◌, ◌++◌, All, ℤ, FitsSigned, Ok, Err, sym, ap, subst, ◌∙◌, arith}
 use Rattle.std.specs.Int.{w32}
 use Rattle.std.proofs.lemmas.List.Elements.{All-head}
 use Rattle.pb_words.specs.declared.numbers.NumFault.{NumFault}
@@ -16,8 +16,14 @@ begins_no_sign (b ∷ bs) u =
     let h : IsDigit b = All-head IsDigit b bs u in
     (λ e. omega (arith, h.0, e), λ e. omega (arith, h.0, e))
 
--- a number past the largest size doesn't fit
-past_most : (sign : Sign) (n : ℕ) → most sign < n → ¬ (FitsSigned w32 (signed sign n))
+-- a number up to the largest size fits, and one past it doesn't
+pub fits_most : (sign : Sign) (n : ℕ) → n ≤ most sign → FitsSigned w32 (signed sign n)
+fits_most signs.Absent n h = record { sfits = omega arith }
+fits_most signs.Plus n h = record { sfits = omega arith }
+fits_most signs.Minus zero h = record { sfits = omega arith }
+fits_most signs.Minus (suc n) h = record { sfits = omega arith }
+
+pub past_most : (sign : Sign) (n : ℕ) → most sign < n → ¬ (FitsSigned w32 (signed sign n))
 past_most signs.Absent n h f = omega (arith, f.sfits)
 past_most signs.Plus n h f = omega (arith, f.sfits)
 past_most signs.Minus zero h f = omega arith

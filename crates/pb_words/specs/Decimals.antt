@@ -1,12 +1,14 @@
 -- Decimals with at most nine places after the point, between text and value, and the one text of
 -- each that is written.
-use Rattle.std.specs.Prelude.{◌≡◌, ⊤, ℕ, zero, suc, ◌+◌, ◌-◌, ◌*◌, ◌/◌, ◌%◌, ◌^◌, ◌<◌, ◌≤◌, ◌==◌, if◌then◌else◌, List, [], ◌∷◌, ◌++◌, length, replicate, All, ℤ, pos, negsuc, Option, Some, None, Result, Ok, Err, decimal}
+use Rattle.std.specs.Prelude.{◌≡◌, ⊤, ℕ, zero, suc, ◌+◌, ◌-◌, ◌*◌, ◌/◌, ◌%◌, ◌^◌, ◌<◌, ◌≤◌, ◌==◌, ◌&&◌, not, nat_eq, nat_le, nat_lt, Bool, if◌then◌else◌, List, [], ◌∷◌, ◌++◌, length, replicate, take, drop, All, ℤ, pos, negsuc, Option, Some, None, Result, Ok, Err, decimal}
+use Rattle.std.specs.List.{list_all, position_or_len}
+use Rattle.std.specs.Cmp.Lexicographic.{pointwise}
 use Rattle.pb_words.specs.declared.numbers.NumFault.{NumFault}
 use Rattle.pb_words.specs.declared.numbers.NumFault.TheVariants as faults
 use Rattle.pb_words.specs.declared.signed.Sign.{Sign}
 use Rattle.pb_words.specs.declared.decimals.Decimal9.{Decimal9}
 use Rattle.pb_words.specs.Numbers.{IsDigit, value_of}
-use Rattle.pb_words.specs.Signed.{sign_text, signed}
+use Rattle.pb_words.specs.Signed.{sign_text, signed, is_digit, sign_cut}
 
 -- a decimal as it is written: an optional sign, whole digits, and optionally a point with places
 pub record Decimal : Type 0 where
@@ -97,3 +99,38 @@ canonical_size n = decimal (n / 10 ^ 9) ++ fraction (n % 10 ^ 9)
 unfoldable pub canonical : ℤ → List ℕ
 canonical (pos n) = canonical_size n
 canonical (negsuc n) = 45 ∷ canonical_size (suc n)
+
+-- The same, computed.
+
+-- the digits in front of a text
+abbrev pub digits_in : List ℕ → List ℕ
+digits_in text = take (position_or_len (λ b. not (is_digit b)) text) text
+
+-- what follows them
+abbrev pub behind_digits : List ℕ → List ℕ
+behind_digits text = drop (position_or_len (λ b. not (is_digit b)) text) text
+
+-- the places after the point, where there is one
+abbrev pub places_behind : List ℕ → Option (List ℕ)
+places_behind [] = None
+places_behind (point ∷ places) = Some places
+
+-- the decimal that the text is, where it is one
+abbrev pub decimal_cut : List ℕ → Decimal
+decimal_cut text =
+    let rest = (sign_cut text).1 in
+    record { sign = (sign_cut text).0; whole = digits_in rest; after_point = places_behind (behind_digits rest) }
+
+-- the decimal is in the grammar
+abbrev pub is_decimal : Decimal → Bool
+is_decimal d =
+    list_all is_digit d.whole && list_all is_digit (places_of d.after_point)
+    && nat_lt 0 (length d.whole + length (places_of d.after_point))
+    && nat_le (length (places_of d.after_point)) 9
+
+-- the decimal that the text is as it is written, if it is one
+unfoldable pub decimal_of : List ℕ → Option Decimal
+decimal_of text =
+    if is_decimal (decimal_cut text) && pointwise nat_eq (decimal_text (decimal_cut text)) text
+    then Some (decimal_cut text)
+    else None

@@ -3,3 +3,4 @@ pub mod Refusals
 pub mod Signed
 pub mod Decimals
 pub mod Hex
+pub mod Steps

@@ -1,8 +1,9 @@
-ghost use Rattle.std.specs.Prelude.{◌≡◌, ℕ, ℤ, pos, unsigned_abs, ◌+◌, ◌*◌, ◌^◌, ◌<◌, ◌≤◌, ◌*ℤ◌, List, ◌++◌, length, drop, All, IfSome, IfNone, Result};
+ghost use Rattle.std.specs.Prelude.{◌≡◌, ℕ, ℤ, pos, negsuc, unsigned_abs, ◌+◌, ◌*◌, ◌^◌, ◌<◌, ◌≤◌, ◌↔◌, ◌*ℤ◌, List, ◌++◌, length, drop, codes, All, Some, None, IfSome, IfNone, Result};
 ghost use Rattle.std.specs.Fmt.{signed_decimal};
+ghost use Rattle.std.specs.Option.{option_map};
 ghost use Rattle.pb_words.specs.Numbers.{IsDigit, value_of};
 ghost use Rattle.pb_words.specs.Signed.{signed};
-ghost use Rattle.pb_words.specs.Decimals.{ReadsDecimal, ReadsDecimalUpTo, Decimal, WritesDecimal, IsCut, ArePlaces, BeginsNoDigit, nine_places, canonical, canonical_size, fraction, places};
+ghost use Rattle.pb_words.specs.Decimals.{ReadsDecimal, ReadsDecimalUpTo, Decimal, WritesDecimal, IsCut, ArePlaces, BeginsNoDigit, nine_places, decimal_value, decimal_of, canonical, canonical_size, fraction, places};
 
 use crate::lines::Line;
 use crate::numbers::{NumFault, are_digits};
@@ -201,4 +202,20 @@ pub fn canonical_decimals_are_read_back()
 /// The canonical text of a whole number is that of the number without a point.
 pub fn whole_numbers_are_canonical()
     ensures { (z : ℤ) → canonical (z *ℤ pos (10 ^ 9)) ≡ signed_decimal z }
+{}
+
+/// The decimal that a text is, is the computed one, and of any other text none is computed.
+pub fn decimals_are_computed()
+    ensures { (text : List ℕ) (d : Decimal) → WritesDecimal text d ↔ (decimal_of text ≡ Some d) }
+{}
+
+/// The computed decimals of a few texts, in billionths.
+pub fn decimals_by_example()
+    ensures places { option_map decimal_value (decimal_of (codes "1.5")) ≡ Some (pos 1500000000) }
+    ensures last_place { option_map decimal_value (decimal_of (codes "-0.000000004")) ≡ Some (negsuc 3) }
+    ensures point_first { option_map decimal_value (decimal_of (codes "+.25")) ≡ Some (pos 250000000) }
+    ensures point_last { option_map decimal_value (decimal_of (codes "2.")) ≡ Some (pos 2000000000) }
+    ensures ten_places { decimal_of (codes "0.0000000041") ≡ None }
+    ensures two_points { decimal_of (codes "1.2.3") ≡ None }
+    ensures no_digits { decimal_of (codes ".") ≡ None }
 {}

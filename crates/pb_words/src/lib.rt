@@ -15,17 +15,21 @@ mod texts;
 
 pub use counting::Steps;
 pub use decimals::{
-    Decimal9, canonical_decimals_are_read_back, decimals_are_read_in_one_way, read_decimal,
-    read_decimal_up_to, whole_numbers_are_canonical, write_decimal,
+    Decimal9, canonical_decimals_are_read_back, decimals_are_computed,
+    decimals_are_read_in_one_way, decimals_by_example, read_decimal, read_decimal_up_to,
+    whole_numbers_are_canonical, write_decimal,
 };
 pub use hex::write_hex32;
 pub use memory::OutOfMemory;
 pub use numbers::{
     NumFault, decimals_are_read_back, put_front, read_tick, read_u32, read_u48, read_uint,
-    write_u64,
+    uints_are_computed, write_u64,
 };
 pub use refusals::Refusal;
-pub use signed::{ints_are_read_in_one_way, read_i32, signed_decimals_are_read_back, write_i64};
+pub use signed::{
+    ints_are_computed, ints_are_read_in_one_way, ints_by_example, read_i32,
+    signed_decimals_are_read_back, write_i64,
+};
 pub use texts::Text;
 
 #[cfg(test)]

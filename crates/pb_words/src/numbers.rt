@@ -1,5 +1,6 @@
-ghost use Rattle.std.specs.Prelude.{◌≡◌, ℕ, ◌+◌, ◌-◌, ◌^◌, ◌<◌, ◌≤◌, ◌++◌, ◌↔◌, length, drop, decimal, IsTrue, All};
+ghost use Rattle.std.specs.Prelude.{◌≡◌, ℕ, ◌+◌, ◌-◌, ◌^◌, ◌<◌, ◌≤◌, ◌++◌, ◌↔◌, List, length, drop, decimal, true, IsTrue, All};
 ghost use Rattle.pb_words.specs.Numbers.{IsDigit, IsUint, ReadsUint, WritesNumber};
+ghost use Rattle.pb_words.specs.Signed.{is_uint};
 
 use itoa::Buffer;
 
@@ -92,4 +93,9 @@ pub fn are_digits(text: &[u8]) -> bool
 /// What is written as a decimal is read back as the number.
 pub fn decimals_are_read_back()
     ensures { (n : ℕ) → n < 2 ^ 64 → WritesNumber (decimal n) n }
+{}
+
+/// A text is a number without a sign exactly where the test is true of it.
+pub fn uints_are_computed()
+    ensures { (text : List ℕ) → IsUint text ↔ (is_uint text ≡ true) }
 {}

@@ -1,7 +1,8 @@
-ghost use Rattle.std.specs.Prelude.{◌≡◌, ℕ, ℤ, ◌≤◌, List, ◌++◌, length, drop, Result, FitsSigned};
+ghost use Rattle.std.specs.Prelude.{◌≡◌, ℕ, ℤ, pos, negsuc, ◌≤◌, ◌↔◌, List, ◌++◌, length, drop, codes, Some, None, Result, FitsSigned};
 ghost use Rattle.std.specs.Fmt.{signed_decimal};
 ghost use Rattle.std.specs.Int.{w32};
-ghost use Rattle.pb_words.specs.Signed.{ReadsInt, Int, WritesInt, BeginsNoSign, sign_text, signed, most};
+ghost use Rattle.std.specs.Option.{option_map};
+ghost use Rattle.pb_words.specs.Signed.{ReadsInt, Int, WritesInt, BeginsNoSign, sign_text, signed, most, int_value, int_of};
 
 use crate::numbers::{NumFault, put_front, read_uint};
 use itoa::Buffer;
@@ -76,4 +77,19 @@ pub fn ints_are_read_in_one_way()
 pub fn signed_decimals_are_read_back()
     ensures { (z : ℤ) (read : Result ℤ NumFault) → FitsSigned w32 z → ReadsInt (signed_decimal z) read
         → read ≡ Ok z }
+{}
+
+/// The number with an optional sign that a text is, is the computed one, and of any other text none
+/// is computed.
+pub fn ints_are_computed()
+    ensures { (text : List ℕ) (i : Int) → WritesInt text i ↔ (int_of text ≡ Some i) }
+{}
+
+/// The computed numbers of a few texts.
+pub fn ints_by_example()
+    ensures plus { option_map int_value (int_of (codes "+007")) ≡ Some (pos 7) }
+    ensures minus { option_map int_value (int_of (codes "-12")) ≡ Some (negsuc 11) }
+    ensures minus_zero { option_map int_value (int_of (codes "-0")) ≡ Some (pos 0) }
+    ensures two_signs { int_of (codes "+-1") ≡ None }
+    ensures no_digits { int_of (codes "-") ≡ None }
 {}

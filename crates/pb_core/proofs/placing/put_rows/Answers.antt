@@ -2,7 +2,7 @@ use Rattle.std.proofs.Common.{◌<◌, ◌≤◌, length, ◌∙◌, arith}
 use Rattle.std.proofs.lemmas.List.{take_more}
 use Rattle.pb_core.specs.declared.stimuli.Row.{Row}
 use Rattle.pb_core.proofs.StimulusLemmas.{AllByRecursion-push, coming_from}
-use Rattle.pb_core.proofs.InputLemmas.{levels_more, inputs_at-front}
+use Rattle.pb_core.proofs.LevelLemmas.{levels_more, values_at-front}
 use Rattle.pb_core.proofs.placing.put_rows.Goals as goal
 
 pub loop-next-preserved : goal.loop-next-preserved
@@ -24,6 +24,6 @@ returns-else-rows-next c =
       within = inv.within;
       past = inv.past;
       coming = coming;
-      levels = inv.levels ∙ inputs_at-front c.args.rows.now c.loop-next.next c.args.tick coming;
+      levels = inv.levels ∙ values_at-front c.args.rows.now c.loop-next.next c.args.tick coming;
       small = c.requires.small;
     }

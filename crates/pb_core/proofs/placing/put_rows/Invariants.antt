@@ -1,7 +1,7 @@
 use Rattle.std.proofs.Common.{◌≡◌, ◌-◌, ◌≤◌, length, take}
 use Rattle.std.specs.List.{AllByRecursion}
 use Rattle.pb_core.specs.declared.stimuli.Row.{Row}
-use Rattle.pb_core.specs.Tick.{inputs_at}
+use Rattle.pb_core.specs.Current.{values_at}
 use Rattle.pb_core.proofs.placing.put_rows.Given as goal
 
 abbrev pub invariant-loop-next : goal.invariant-loop-next
@@ -9,7 +9,7 @@ invariant-loop-next l =
     record {
       within : l.next ≤ length l.rows;
       past : AllByRecursion (λ (row : Row). row.tick ≤ l.tick) (take l.next l.rows);
-      levels : l.inputs ≡ inputs_at (take l.next l.rows) l.tick;
+      levels : l.values ≡ values_at (take l.next l.rows) l.tick;
     }
 
 abbrev pub decreases-loop-next : goal.decreases-loop-next

@@ -1,4 +1,4 @@
-use Rattle.pb_grammar.proofs.Lines.{command_iff}
+use Rattle.pb_grammar.proofs.Meanings.{command_iff}
 use Rattle.pb_grammar.proofs.commands.commands_have_one_meaning.Goals as goal
 
 pub returns : goal.returns

@@ -1,0 +1,5 @@
+pub mod PlaceLemmas
+pub mod KindLemmas
+pub mod ChangeLemmas
+pub mod KeptLemmas
+pub mod ScaledLemmas

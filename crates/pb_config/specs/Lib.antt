@@ -1,0 +1,5 @@
+pub mod Settings
+pub mod Defaults
+pub mod Assigning
+pub mod Showing
+pub mod Kept

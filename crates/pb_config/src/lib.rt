@@ -1,0 +1,23 @@
+//! The settings of the box: they start at their defaults, take the values that
+//! control lines assign, and are printed for queries. What they are stands in
+//! `specs/Settings.antt`, their defaults in `specs/Defaults.antt`, what an
+//! assignment does in `specs/Assigning.antt`, and what is printed in
+//! `specs/Showing.antt`.
+#![tactic(auto)]
+
+mod changing;
+mod configs;
+mod defaults;
+mod infos;
+mod laws;
+mod places;
+mod scaling;
+mod showing;
+mod texts;
+
+pub use configs::Config;
+pub use laws::{fresh_values, places_are_distinct};
+pub use showing::has_line;
+
+#[cfg(test)]
+mod tests;

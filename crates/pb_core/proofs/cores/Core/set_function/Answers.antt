@@ -1,8 +1,0 @@
-use Rattle.std.proofs.Common.{arith}
-use Rattle.pb_core.specs.Answer.{with_function}
-use Rattle.pb_core.proofs.CoreLemmas.{lut_written}
-use Rattle.pb_core.proofs.cores.Core.set_function.Goals as goal
-
-pub returns : goal.returns
-returns c =
-    lut_written c.args.self.now c.self.inside.stimulus c.self.inside.state c.args.j (with_function c.args.function) _ c.self.view_is (omega arith) c.requires.lut.0 c.requires.lut.1

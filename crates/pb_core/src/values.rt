@@ -1,0 +1,181 @@
+ghost use Rattle.std.specs.Prelude.{◌≡◌, None, Some, IfOk, OnErr, true};
+ghost use Rattle.pb_fields.specs.Slots.{IsSlot, type_at, attribute_at};
+ghost use Rattle.pb_config.specs.Settings.{field_slot};
+ghost use Rattle.pb_config.specs.Showing.{is_line, scaled_shown};
+ghost use Rattle.std.specs.Fmt.{signed_decimal};
+ghost use Rattle.pb_replies.specs.Replies.{value_reply};
+ghost use Rattle.pb_core.specs.Queries.{slot_reply, is_reported, entry_at, level_text, position_of};
+ghost use Rattle.pb_core.specs.Answer.{replied, IsReply};
+
+use crate::cores::Core;
+use crate::events::Answer;
+use pb_fields::{Attribute, FieldType, Slot, attribute, entry, field_type, kind, show};
+use pb_replies::{empty_reply, labels_reply, row_reply, value_reply, word_reply};
+use pb_words::{OutOfMemory, write_i64};
+
+/// The most bytes of a value that is one line.
+const ROOM: usize = 128;
+
+/// Entries of positions are counted from here.
+const FIRST_POSITION: u8 = 128;
+
+/// The place of BITS0 among the fields of PCAP. BITS1 to BITS3 follow it.
+const FIRST_WORD: u8 = 8;
+
+/// The answer to the query of a field or an attribute.
+pub(crate) fn slot_answer(core: &Core, slot: Slot) -> Result<Answer, OutOfMemory>
+    requires { IsSlot slot }
+    ensures ok { IfOk result (λ told. told ≡ replied (slot_reply core.now slot)) }
+    ensures memory { OnErr result (IsReply (replied (slot_reply core.now slot))) }
+{
+    match attribute(slot) {
+        None => field_answer(core, slot),
+        Some(attribute) => attribute_answer(core, slot, attribute),
+    }
+}
+
+/// The answer to the query of a field. What a block reports is 0 yet, and a table is empty.
+fn field_answer(core: &Core, slot: Slot) -> Result<Answer, OutOfMemory>
+    requires slot { IsSlot slot }
+    requires field { attribute_at slot ≡ None }
+    ensures ok { IfOk result (λ told. told ≡ replied (slot_reply core.now slot)) }
+    ensures memory { OnErr result (IsReply (replied (slot_reply core.now slot))) }
+{
+    match field_type(slot) {
+        FieldType::ReadUint | FieldType::ReadEnum { .. } => zero_answer(core, slot),
+        FieldType::BitOut => level_answer(core, slot),
+        FieldType::PosOut => position_answer(core, slot),
+        FieldType::Table => Ok(Answer::Reply(empty_reply(core.alloc())?)),
+        _ => setting_answer(core, slot),
+    }
+}
+
+/// The answer to the query of an attribute.
+#[tactic(auto, using(crate::proofs::FieldLemmas::word_within))]
+fn attribute_answer(core: &Core, slot: Slot, attribute: Attribute) -> Result<Answer, OutOfMemory>
+    requires slot { IsSlot slot }
+    requires which { attribute_at slot ≡ Some attribute }
+    ensures ok { IfOk result (λ told. told ≡ replied (slot_reply core.now slot)) }
+    ensures memory { OnErr result (IsReply (replied (slot_reply core.now slot))) }
+{
+    match attribute {
+        Attribute::Labels => Ok(Answer::Reply(labels_reply(core.alloc(), field_slot(slot))?)),
+        Attribute::Scaled => scaled_answer(core, slot),
+        Attribute::Bits => Ok(Answer::Reply(word_reply(core.alloc(), slot.field - FIRST_WORD)?)),
+        Attribute::Length => Ok(Answer::Reply(value_reply(core.alloc(), b"0")?)),
+        Attribute::Fields => Ok(Answer::Reply(row_reply(core.alloc())?)),
+        Attribute::Base64 => Ok(Answer::Reply(empty_reply(core.alloc())?)),
+        _ => setting_answer(core, slot),
+    }
+}
+
+/// The value that the settings or the catalogue have.
+fn setting_answer(core: &Core, slot: Slot) -> Result<Answer, OutOfMemory>
+    requires slot { IsSlot slot }
+    requires line { is_line slot ≡ true }
+    ensures ok { IfOk result (λ told. told ≡ replied (slot_reply core.now slot)) }
+    ensures memory { OnErr result (IsReply (replied (slot_reply core.now slot))) }
+{
+    let mut out = [0; ROOM];
+    match core.settings().show(slot, &mut out) {
+        Ok(len) => Ok(Answer::Reply(value_reply(core.alloc(), &out[..len])?)),
+        Err(refusal) => Ok(Answer::Error(refusal)),
+    }
+}
+
+/// What a block reports, which is 0 yet.
+#[tactic(auto, using(crate::proofs::FieldLemmas::zero_within))]
+fn zero_answer(core: &Core, slot: Slot) -> Result<Answer, OutOfMemory>
+    requires slot { IsSlot slot }
+    requires field { attribute_at slot ≡ None }
+    requires reported { is_reported (type_at slot) ≡ true }
+    ensures ok { IfOk result (λ told. told ≡ replied (slot_reply core.now slot)) }
+    ensures memory { OnErr result (IsReply (replied (slot_reply core.now slot))) }
+{
+    let mut out = [0; ROOM];
+    let len = show(kind(slot), 0, &mut out);
+    Ok(Answer::Reply(value_reply(core.alloc(), &out[..len])?))
+}
+
+/// The level of an output.
+fn level_answer(core: &Core, slot: Slot) -> Result<Answer, OutOfMemory>
+    requires slot { IsSlot slot }
+    requires field { attribute_at slot ≡ None }
+    requires output { type_at slot ≡ FieldType.BitOut }
+    ensures ok { IfOk result (λ told. told ≡ replied (slot_reply core.now slot)) }
+    ensures memory { OnErr result (IsReply (replied (slot_reply core.now slot))) }
+{
+    let text = level_text(core.level(entry_at(slot)));
+    Ok(Answer::Reply(value_reply(core.alloc(), text)?))
+}
+
+fn level_text(level: bool) -> &'static [u8]
+    ensures { result.now ≡ level_text level }
+{
+    if level { b"1" } else { b"0" }
+}
+
+/// The value of a position.
+fn position_answer(core: &Core, slot: Slot) -> Result<Answer, OutOfMemory>
+    requires slot { IsSlot slot }
+    requires field { attribute_at slot ≡ None }
+    requires output { type_at slot ≡ FieldType.PosOut }
+    ensures ok { IfOk result (λ told. told ≡ replied (slot_reply core.now slot)) }
+    ensures memory { OnErr result (IsReply (replied (slot_reply core.now slot))) }
+{
+    number_answer(core, position(core, slot))
+}
+
+fn number_answer(core: &Core, value: i32) -> Result<Answer, OutOfMemory>
+    ensures { IfOk result (λ told. told ≡ Answer.Reply (value_reply (signed_decimal value))) }
+{
+    let mut out = [0; ROOM];
+    let len = write_i64(i64::from(value), &mut out);
+    Ok(Answer::Reply(value_reply(core.alloc(), &out[..len])?))
+}
+
+/// The value of a position as its SCALED has it.
+fn scaled_answer(core: &Core, slot: Slot) -> Result<Answer, OutOfMemory>
+    requires slot { IsSlot slot }
+    requires which { attribute_at slot ≡ Some Attribute.Scaled }
+    ensures ok { IfOk result (λ told. told ≡ replied (slot_reply core.now slot)) }
+    ensures memory { OnErr result (IsReply (replied (slot_reply core.now slot))) }
+{
+    scaled_number_answer(core, slot, position(core, slot))
+}
+
+/// The value times SCALE of the slot's position, plus its OFFSET.
+fn scaled_number_answer(core: &Core, slot: Slot, value: i32) -> Result<Answer, OutOfMemory>
+    requires slot { IsSlot slot }
+    requires which { attribute_at slot ≡ Some Attribute.Scaled }
+    ensures { IfOk result (λ told. told ≡ Answer.Reply (value_reply (scaled_shown core.now.settings slot value))) }
+{
+    let mut out = [0; ROOM];
+    let len = core.settings().show_scaled(slot, value, &mut out);
+    Ok(Answer::Reply(value_reply(core.alloc(), &out[..len])?))
+}
+
+/// The value of the position that the slot's field is.
+fn position(core: &Core, slot: Slot) -> i32
+    requires { IsSlot slot }
+    ensures { result ≡ position_of core.now slot }
+{
+    core.position(entry_at(slot).saturating_sub(FIRST_POSITION))
+}
+
+/// The entry that the slot's field drives.
+fn entry_at(slot: Slot) -> u8
+    requires { IsSlot slot }
+    ensures { result ≡ entry_at slot }
+{
+    entry(field_slot(slot)).unwrap_or(FIRST_POSITION)
+}
+
+/// The field of an attribute.
+fn field_slot(slot: Slot) -> Slot
+    requires { IsSlot slot }
+    ensures field { result ≡ field_slot slot }
+    ensures slot { IsSlot result }
+{
+    Slot { attr: 0, ..slot }
+}

@@ -1,0 +1,7 @@
+//! The changes that the outside makes to the box. Which of them are allowed is said in
+//! `specs/Changes.antt`.
+#![tactic(auto)]
+
+mod changes;
+
+pub use changes::Change;

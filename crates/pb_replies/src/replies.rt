@@ -1,0 +1,41 @@
+ghost use Rattle.std.specs.Prelude.{◌≡◌, ◌++◌, [], codes, IfOk, OnOk};
+ghost use Rattle.pb_replies.specs.Replies.{value_reply, listed, list_reply};
+
+use pb_words::{OutOfMemory, Text};
+use std::alloc::Global;
+
+/// The reply of one value.
+pub fn value_reply(alloc: Global, value: &[u8]) -> Result<Text, OutOfMemory>
+    ensures { IfOk result (λ text. text ≡ value_reply value.now) }
+{
+    let mut text = Text::new(alloc);
+    text.append(b"OK =")?;
+    text.append(value)?;
+    text.append(b"\n")?;
+    Ok(text)
+}
+
+/// The reply of no values, which is the point alone.
+pub fn empty_reply(alloc: Global) -> Result<Text, OutOfMemory>
+    ensures { IfOk result (λ text. text ≡ list_reply []) }
+{
+    let mut text = Text::new(alloc);
+    end_list(&mut text)?;
+    Ok(text)
+}
+
+/// Adds the line of one of several values.
+pub(crate) fn list(text: &mut Text, value: &[u8]) -> Result<(), OutOfMemory>
+    ensures { OnOk result (text.new ≡ text.old ++ listed value.now) }
+{
+    text.append(b"!")?;
+    text.append(value)?;
+    text.append(b"\n")
+}
+
+/// Adds the point that ends several values.
+pub(crate) fn end_list(text: &mut Text) -> Result<(), OutOfMemory>
+    ensures { OnOk result (text.new ≡ text.old ++ codes ".\n") }
+{
+    text.append(b".\n")
+}
