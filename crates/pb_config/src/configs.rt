@@ -63,6 +63,7 @@ impl Config {
         ensures told { result ≡ told self.old slot value.now }
         ensures settings { self.new ≡ after_assignment self.old slot value.now }
         ensures allowed { IfOk result (λ change. IfSome change (λ told. IsChange told)) }
+        ensures same { OnErr result (self.new ≡ self.old) }
     {
         let raw = self.spelled(slot, value)?;
         self.keep_raw(target(slot), raw);

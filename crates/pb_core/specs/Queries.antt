@@ -1,5 +1,5 @@
 -- What a query is answered.
-use Rattle.std.specs.Prelude.{ℕ, ℤ, ◌-◌, nat_eq, Bool, true, false, List, [], Option, Some, None, Result, Ok, Err, codes, is_some, position, if◌then◌else◌}
+use Rattle.std.specs.Prelude.{ℕ, ℤ, ◌-◌, ◌&&◌, nat_eq, Bool, true, false, List, [], Option, Some, None, Result, Ok, Err, codes, is_some, is_none, position, if◌then◌else◌}
 use Rattle.std.specs.Cmp.Lexicographic.{pointwise}
 use Rattle.std.specs.Fmt.{signed_decimal}
 use Rattle.std.specs.Option.{option_map_or, unwrap_or}
@@ -114,6 +114,10 @@ abbrev pub listing_reply : List ℕ → Result (List ℕ) Refusal
 listing_reply front =
     if has_point front then result_map (λ slot. list_reply (attribute_lines slot)) (found_of front)
     else result_map (λ block. list_reply (field_lines block)) (block_found front)
+
+-- the target names a field or an attribute: it has no star at its front, nor a point and a star at its end
+abbrev pub is_plain : List ℕ → Bool
+is_plain target = is_none (after_front (codes "*") target) && is_none (before_end (codes ".*") target)
 
 -- the query of a target of a block
 abbrev pub block_reply : CoreState → List ℕ → Result (List ℕ) Refusal

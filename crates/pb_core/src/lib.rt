@@ -11,6 +11,7 @@ mod command_tests;
 mod cores;
 mod events;
 mod examples;
+mod laws;
 mod placing;
 mod queries;
 mod steps;
@@ -25,4 +26,5 @@ pub use events::{Answer, Event};
 pub use examples::{
     input_is_seen_one_tick_later, lut_of_itself_toggles, refused_lines_change_nothing,
 };
+pub use laws::{only_done_lines_change_the_core, refusals_come_in_order};
 pub use stimuli::{Row, Stimulus};
