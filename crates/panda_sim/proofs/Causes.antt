@@ -1,12 +1,11 @@
 -- Each status has its cause, on an input that tells its bytes.
-use Rattle.std.proofs.Common.{◌≡◌, ◌≢◌, ℕ, ◌<◌, ◌≤◌, ◌⊎◌, List, [], ◌∷◌, ◌++◌, length, Option, Some, None, refl, sym, ap, subst, inl, inr, ◌∙◌, arith}
+use Rattle.std.proofs.Common.{◌≡◌, ◌≢◌, ℕ, List, [], ◌++◌, length, Option, Some, refl, sym, ap, subst, inl, inr, ◌∙◌, arith}
 use Rattle.std.proofs.lemmas.List.{append-nil, length-append}
 use Rattle.pb_ports.specs.Ports.{Takes, IsSpent, Rose}
 use Rattle.panda_sim.specs.declared.statuses.Status.{Status}
 use Rattle.panda_sim.specs.declared.statuses.Status.TheVariants as statuses
 use Rattle.panda_sim.specs.Script.{Line, IsScript}
 use Rattle.panda_sim.specs.Run.{Replays, ReadsNoScript, Leaves, Refuses, Completes}
-use Rattle.panda_sim.proofs.Unique.{one_script}
 
 -- what was taken of told bytes, and what is left
 taken_of : (bytes read : List ℕ) (left : Option (List ℕ)) → Takes (Some bytes) read left → IsSpent left → read ≡ bytes

@@ -1,7 +1,7 @@
 -- What has been written of a script's output, step by step.
 use Rattle.std.proofs.Common.{◌≡◌, ◌≢◌, ℕ, ◌+◌, ◌<◌, ◌≤◌, List, [], ◌∷◌, ◌++◌, length, get_or, drop, Option, Some, None, refl, sym, ap, subst, inl, inr, ◌∙◌, arith}
 use Rattle.std.specs.List.{flat_map}
-use Rattle.std.proofs.lemmas.List.{append-nil, append_assoc, at_drop_more, at_drop_all}
+use Rattle.std.proofs.lemmas.List.{append_assoc, at_drop_more}
 use Rattle.pb_ports.specs.Ports.{Adds, Rose}
 use Rattle.pb_core.specs.declared.Event.{Event}
 use Rattle.pb_core.specs.Answer.{CoreState, after}
@@ -23,11 +23,6 @@ sections-append (event ∷ events) more core =
     ap (λ x. written core event ++ x) (sections-append events more (after core event))
     ∙ sym (append_assoc (written core event) (sections (after core event) events) (sections (after_all (after core event) events) more))
 
--- nothing is added
-pub adds_none : (old : Option (List ℕ)) → Adds old [] old
-adds_none None = refl
-adds_none (Some held) = ap Some (sym (append-nil held))
-
 -- two pieces, one after the other
 pub adds_twice : (old mid new : Option (List ℕ)) (a b : List ℕ) → Adds old a mid → Adds mid b new → Adds old (a ++ b) new
 adds_twice None None new a b h k = k
@@ -37,10 +32,6 @@ adds_twice (Some held) (Some more) new a b h k =
     let same : more ≡ held ++ a = cc in
     k ∙ ap Some (ap (λ x. x ++ b) same ∙ append_assoc held a b)
 
--- nothing is played yet
-pub played_none : (all : List ℕ) (old : Option (List ℕ)) → IsPlayed all all old old
-played_none all old = record { done = []; added = adds_none old; split = refl }
-
 -- one part more
 pub played_more : (all part rest : List ℕ) (old mid now : Option (List ℕ)) → IsPlayed all (part ++ rest) old mid → Adds mid part now → IsPlayed all rest old now
 played_more all part rest old mid now p h =
@@ -49,10 +40,6 @@ played_more all part rest old mid now p h =
       added = adds_twice old mid now p.done part p.added h;
       split = p.split ∙ sym (append_assoc p.done part rest);
     }
-
--- all is played
-pub played_all : (all : List ℕ) (old now : Option (List ℕ)) → IsPlayed all [] old now → Adds old all now
-played_all all old now p = subst (λ bytes. Adds old bytes now) (sym (p.split ∙ append-nil p.done)) p.added
 
 -- a part breaks off
 played_front : (all part rest : List ℕ) (old mid now : Option (List ℕ)) → IsPlayed all (part ++ rest) old mid → AddsFront mid part now → AddsFront old all now
@@ -74,10 +61,6 @@ pub to_come_more : {S : Type 0} (f : S → List Event) (core : CoreState) (steps
 to_come_more f core steps i d h =
     ap (λ events. sections core events) (at_drop_more (flat_map f) steps i d h)
     ∙ sections-append (f (get_or steps i d)) (flat_map f (drop (i + 1) steps)) core
-
--- and at the end
-pub to_come_none : {S : Type 0} (f : S → List Event) (core : CoreState) (steps : List S) (i : ℕ) → length steps ≤ i → sections core (flat_map f (drop i steps)) ≡ []
-to_come_none f core steps i h = ap (λ events. sections core events) (at_drop_all (flat_map f) steps i h)
 
 -- a count that rose later rose
 pub rose_later : (old mid new : ℕ) → old ≤ mid → Rose mid new → Rose old new

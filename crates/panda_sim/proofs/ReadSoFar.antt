@@ -7,10 +7,7 @@ use Rattle.pb_core.specs.declared.Row.{Row}
 use Rattle.pb_core.specs.Stimulus.{last_tick}
 use Rattle.pb_core.specs.declared.Event.{Event}
 use Rattle.pb_grammar.specs.Grammar.{IsText}
-use Rattle.panda_sim.specs.declared.lines.ReadDeed.{ReadDeed}
-use Rattle.panda_sim.specs.declared.lines.ReadDeed.TheVariants as deeds
-use Rattle.panda_sim.specs.Lines.{deed_of, IsReadDeed}
-use Rattle.panda_sim.specs.Script.{Line, Deed, Skipped, Timed, Level, Command, End, Says, IsLine, Spells, Ordered, IsScript, is_end}
+use Rattle.panda_sim.specs.Script.{Line, Deed, Skipped, Timed, Level, Command, End, IsLine, Spells, Ordered, IsScript, is_end}
 use Rattle.panda_sim.specs.Output.{rows_of, events_of}
 use Rattle.panda_sim.proofs.Unique.{one_line, one_reading, no_newline}
 
@@ -23,18 +20,6 @@ pub record IsRead (text rest : List ℕ) (ended : Bool) (last : ℕ) (rows : Lis
   pub only : (all : List Line) → Spells text all → Ordered false 0 all → (lines : List Line) × Spells rest lines × Ordered ended last lines
   pub rows_are : flat_map rows_of done ≡ rows
   pub events_are : flat_map events_of done ≡ events
-
--- nothing is read yet
-pub read_none : (text : List ℕ) → IsRead text text false 0 [] []
-read_none text =
-    record {
-      done = [];
-      front = λ lines h. h;
-      order = λ lines h. h;
-      only = λ all h o. (all, h, o);
-      rows_are = refl;
-      events_are = refl;
-    }
 
 -- the line where the rest begins
 next_line : (rest line more : List ℕ) (ended : Bool) (last : ℕ) (lines : List Line) → rest ≡ line ++ 10 ∷ more → IsText line → Spells rest lines → (l : Line) × (others : List Line) × (lines ≡ l ∷ others) × IsLine line l × Spells more others
@@ -106,12 +91,6 @@ read_all text rest ended last rows events fits end none r =
       sym r.rows_are,
       sym r.events_are,
     )
-
--- what is read at a tick is in range
-pub says_fits : (rest : List ℕ) (deed : ReadDeed) → Says rest (deed_of deed) → IsReadDeed deed
-says_fits rest (deeds.Level target value) h = (h.0, h.1)
-says_fits rest (deeds.Command text) h = tt
-says_fits rest deeds.End h = tt
 
 -- the last row of a stimulus isn't after the last line
 pub last_row : (rows : List Row) (first tick : ℕ) (deed : Deed) → last_tick first rows ≤ tick → last_tick first (rows ++ rows_of (Timed tick deed)) ≤ tick

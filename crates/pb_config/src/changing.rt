@@ -1,12 +1,10 @@
 ghost use Rattle.std.specs.Prelude.{◌≡◌};
-ghost use Rattle.pb_fields.specs.Types.{role_of};
 ghost use Rattle.pb_fields.specs.Slots.{IsSlot};
-ghost use Rattle.pb_model.specs.Changes.{is_taken_role};
 ghost use Rattle.pb_config.specs.Assigning.{is_assignable, is_units, target, changes_box, change_of};
 
 use crate::places::field_slot;
-use pb_fields::{Attribute, FieldType, Slot, attribute, field_type, is_assigned};
-use pb_model::Change;
+use pb_fields::{Attribute, Slot, attribute, is_assigned, role};
+use pb_model::{Change, is_taken_role};
 
 /// Whether a value can be assigned to the slot.
 pub(crate) fn is_assignable(slot: Slot) -> bool
@@ -14,25 +12,8 @@ pub(crate) fn is_assignable(slot: Slot) -> bool
     ensures { result ≡ is_assignable slot }
 {
     match attribute(slot) {
-        None => is_taken(field_type(slot)),
+        None => is_taken_role(role(slot)),
         Some(attribute) => is_assigned(attribute),
-    }
-}
-
-fn is_taken(of: FieldType) -> bool
-    ensures { result ≡ is_taken_role (role_of of) }
-{
-    match of {
-        FieldType::ParamUint { .. }
-        | FieldType::ParamInt
-        | FieldType::ParamBit
-        | FieldType::ParamEnum { .. }
-        | FieldType::ParamLut
-        | FieldType::WriteAction
-        | FieldType::Time { .. }
-        | FieldType::BitMux
-        | FieldType::PosMux => true,
-        _ => false,
     }
 }
 

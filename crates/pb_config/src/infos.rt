@@ -1,8 +1,5 @@
 ghost use Rattle.std.specs.Prelude.{◌≡◌, ◌≤◌, length};
-ghost use Rattle.pb_fields.specs.Types.{limit_of};
 ghost use Rattle.pb_config.specs.Showing.{word_name};
-
-use pb_fields::FieldType;
 
 /// The name of a word of the bit bus.
 pub(crate) fn word_name(word: u8) -> &'static [u8]
@@ -14,15 +11,5 @@ pub(crate) fn word_name(word: u8) -> &'static [u8]
         1 => b"PCAP.BITS1",
         2 => b"PCAP.BITS2",
         _ => b"PCAP.BITS3",
-    }
-}
-
-/// The greatest value of a field of this type.
-pub(crate) fn limit(of: FieldType) -> u64
-    ensures { result ≡ limit_of of }
-{
-    match of {
-        FieldType::ParamUint { limit } | FieldType::Time { limit } => limit,
-        _ => 0xffff_ffff,
     }
 }

@@ -17,6 +17,7 @@ mod texts;
 
 pub use configs::Config;
 pub use laws::{fresh_values, places_are_distinct};
+pub use places::field_slot;
 pub use showing::has_line;
 
 #[cfg(test)]

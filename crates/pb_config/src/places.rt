@@ -24,8 +24,8 @@ pub(crate) fn instance_place(slot: Slot) -> usize
     slot.block as usize * 8 + (slot.instance as usize - 1)
 }
 
-/// The field of an attribute.
-pub(crate) fn field_slot(slot: Slot) -> Slot
+/// The field of an attribute; a field itself stays.
+pub fn field_slot(slot: Slot) -> Slot
     requires { IsSlot slot }
     ensures field { result ≡ field_slot slot }
     ensures slot { IsSlot result }

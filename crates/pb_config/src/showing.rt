@@ -1,12 +1,15 @@
-ghost use Rattle.std.specs.Prelude.{true, false, ◌≡◌, Some, ◌≤◌, ◌++◌, length, drop, IfOk, IfErr, OnOk, OnErr};
+ghost use Rattle.std.specs.Prelude.{true, false, ◌≡◌, Some, ◌≤◌, ◌++◌, length, drop, decimal, IfOk, IfErr, OnOk, OnErr};
 ghost use Rattle.pb_fields.specs.Slots.{IsSlot, type_at, attribute_at};
+ghost use Rattle.pb_fields.specs.Types.{limit_of};
 ghost use Rattle.pb_config.specs.Kept.{is_kept};
 ghost use Rattle.pb_config.specs.Showing.{is_line, is_readable, is_readable_field, is_line_of_field, is_line_of_attribute, raw_shown, field_shown, attribute_shown, bit_entry, shown_at};
 
 use crate::configs::Config;
-use crate::infos::{limit, word_name};
+use crate::infos::word_name;
 use crate::places::field_slot;
-use pb_fields::{Attribute, FieldType, Slot, attribute, entry, field_type, type_name};
+use pb_fields::{
+    Attribute, FieldKind, FieldType, Slot, attribute, entry, field_type, kind, type_name,
+};
 use pb_words::{Refusal, put_front, write_hex32, write_u64};
 
 /// Whether the slot's value is one line that comes from the settings or the catalogue, or can't be
@@ -119,7 +122,7 @@ fn show_attribute(config: &Config, slot: Slot, attribute: Attribute, out: &mut [
 {
     match attribute {
         Attribute::Info => put_front(type_name(field_type(slot)), out),
-        Attribute::Max => write_u64(limit(field_type(slot)), out),
+        Attribute::Max => show_limit(slot, out),
         Attribute::LutRaw => show_function(config, slot, out),
         Attribute::TimeRaw => write_u64(config.raw(field_slot(slot)), out),
         Attribute::CaptureWord => put_front(word_name(bit_entry(slot) / 32), out),
@@ -140,6 +143,20 @@ fn show_attribute(config: &Config, slot: Slot, attribute: Attribute, out: &mut [
         | Attribute::Length
         | Attribute::Fields
         | Attribute::Base64 => unreachable!(),
+    }
+}
+
+// The limit of a number, which the kind of its MAX has.
+fn show_limit(slot: Slot, out: &mut [u8]) -> usize
+    requires slot { IsSlot slot }
+    requires which { attribute_at slot ≡ Some Attribute.Max }
+    requires room { 128 ≤ length out.old }
+    ensures len { result ≡ length (decimal (limit_of (type_at slot))) }
+    ensures written { out.new ≡ decimal (limit_of (type_at slot)) ++ drop (length (decimal (limit_of (type_at slot)))) out.old }
+{
+    match kind(slot) {
+        FieldKind::Uint { limit } => write_u64(limit, out),
+        _ => unreachable!(),
     }
 }
 

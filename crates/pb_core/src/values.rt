@@ -9,6 +9,7 @@ ghost use Rattle.pb_core.specs.Answer.{replied, IsReply};
 
 use crate::cores::Core;
 use crate::events::Answer;
+use pb_config::field_slot;
 use pb_fields::{Attribute, FieldType, Slot, attribute, entry, field_type, kind, show};
 use pb_replies::{empty_reply, labels_reply, row_reply, value_reply, word_reply};
 use pb_words::{OutOfMemory, write_i64};
@@ -169,13 +170,4 @@ fn entry_at(slot: Slot) -> u8
     ensures { result ≡ entry_at slot }
 {
     entry(field_slot(slot)).unwrap_or(FIRST_POSITION)
-}
-
-/// The field of an attribute.
-fn field_slot(slot: Slot) -> Slot
-    requires { IsSlot slot }
-    ensures field { result ≡ field_slot slot }
-    ensures slot { IsSlot result }
-{
-    Slot { attr: 0, ..slot }
 }

@@ -4,4 +4,7 @@
 
 mod changes;
 
-pub use changes::Change;
+pub use changes::{Change, is_taken_role};
+
+#[cfg(test)]
+mod tests;
