@@ -1,5 +1,5 @@
 -- All values of the settings are in their ranges: at first, and after one was assigned.
-use Rattle.std.proofs.Common.{◌≡◌, ℕ, ◌+◌, ◌-◌, ◌*◌, ◌/◌, ◌%◌, ◌<◌, ◌≤◌, ◌++◌, ◌==◌, ◌||◌, Bool, true, false, not, List, [], ◌∷◌, length, map, set, get_or, slice_index_or, slice_set, Option, Some, None, if◌then◌else◌, refl, sym, ap, inl, inr, zero-add, subst, ◌∙◌, arith, leb, ltb}
+use Rattle.std.proofs.Common.{◌≡◌, ℕ, ◌+◌, ◌-◌, ◌*◌, ◌/◌, ◌%◌, ◌<◌, ◌≤◌, ◌++◌, ◌==◌, ◌||◌, Bool, true, false, not, List, [], ◌∷◌, codes, length, map, set, get_or, slice_index_or, slice_set, Option, Some, None, if◌then◌else◌, refl, sym, ap, inl, inr, zero-add, subst, ◌∙◌, arith, leb, ltb}
 use Rattle.std.specs.List.{range_with_len, list_all}
 use Rattle.std.proofs.lemmas.Bool.{leb-true, ltb-true, eqb-true, ne_eqb, cases_eq}
 use Rattle.std.proofs.lemmas.List.{length-set, get_or-set_same, get_or-set_other}
@@ -17,8 +17,8 @@ use Rattle.pb_fields.specs.Catalogue.{catalogue}
 use Rattle.pb_fields.specs.Slots.{IsSlot, kind_of, kind_by}
 use Rattle.pb_fields.specs.Values.{IsRaw}
 use Rattle.pb_fields.proofs.RowLemmas.{all_within}
-use Rattle.pb_config.specs.Settings.{place, instance_place, raw_of}
-use Rattle.pb_config.specs.Defaults.{default_of, default_at, text_at, first_at, first_raws, first_texts, fresh}
+use Rattle.pb_config.specs.Settings.{place, instance_place, raw_of, text_of}
+use Rattle.pb_config.specs.Defaults.{default_of, default_text, default_at, text_at, first_at, first_raws, first_texts, fresh}
 use Rattle.pb_config.specs.Kept.{IsKept, CanBe, is_kept_by, is_kept}
 use Rattle.pb_config.proofs.PlaceLemmas.{few, place_within, one_place, place_attr, place_rest, place_field, place_block}
 
@@ -62,11 +62,11 @@ pub more_texts : (n : ℕ) (texts : List (List ℕ)) (text : List ℕ) → texts
 unfolding first_texts
 more_texts n texts text e f = ap (λ l. l ++ text ∷ []) e ∙ ap (λ x. map text_at (range_with_len 0 n) ++ x ∷ []) f ∙ sym (map-range_with_len_more text_at 0 n n (omega arith))
 
-raws_length : (n : ℕ) → length (first_raws n) ≡ n
+pub raws_length : (n : ℕ) → length (first_raws n) ≡ n
 unfolding first_raws
 raws_length n = length-map-range_with_len default_at 0 n
 
-texts_length : (n : ℕ) → length (first_texts n) ≡ n
+pub texts_length : (n : ℕ) → length (first_texts n) ≡ n
 unfolding first_texts
 texts_length n = length-map-range_with_len text_at 0 n
 
@@ -185,6 +185,22 @@ default_by_place slot is =
 
 pub fresh_value : (slot : Slot) → IsSlot slot → raw_of fresh slot ≡ default_of slot
 fresh_value slot is = raws_at 14112 (place slot) (place_within slot is) ∙ default_by_place slot is
+
+texts_at : (n i : ℕ) → i < n → get_or (first_texts n) i [] ≡ text_at i
+unfolding first_texts
+texts_at n i lt = get_or-map-range_with_len text_at 0 n i i [] lt (omega arith)
+
+instance_block : (b i : ℕ) → i < 8 → (b * 8 + i) / 8 ≡ b
+instance_block b i h = omega arith
+
+pub fresh_text : (slot : Slot) → IsSlot slot → text_of fresh slot ≡ default_text slot
+fresh_text slot is =
+    let f = few slot is in
+    let b : slot.block < 12 = f.block in
+    let i : slot.instance ≤ 8 = f.instance in
+    let from : 1 ≤ slot.instance = f.from_one in
+    texts_at 96 (instance_place slot) (omega arith)
+    ∙ ap (λ x. if x == 3 then codes "0" else []) (instance_block slot.block (slot.instance - 1) (omega arith))
 
 fresh_can_be : (slot : Slot) → IsSlot slot → place slot < 14112 → CanBe slot (raw_of fresh slot)
 fresh_can_be slot is lt =

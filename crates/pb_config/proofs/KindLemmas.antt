@@ -306,7 +306,7 @@ units_range slot raw u = units_by_range slot (attribute_at slot) raw refl u
 -- a text that is kept is short
 
 -- what is read as units, or else as a value of this kind
-abbrev given_by : Bool → FieldKind → List ℕ → Result ℕ Refusal
+abbrev pub given_by : Bool → FieldKind → List ℕ → Result ℕ Refusal
 given_by units kind text = if units then units_given text else spelled kind text
 
 given_units : (short : Bool) (raw : ℕ) → (if short then Ok 0 else Err refusals.ValueOutOfRange) ≡ Ok raw → short ≡ true
@@ -374,6 +374,10 @@ given_where false given raw e = absurd (cc)
 pub given_assignable : (settings : Settings) (slot : Slot) (text : List ℕ) (raw : ℕ) → Ok raw ≡ raw_given settings slot text → is_assignable slot ≡ true
 unfolding raw_given
 given_assignable settings slot text raw e = (given_where (is_assignable slot) _ raw (sym e)).0
+
+pub given_of : (settings : Settings) (slot : Slot) (text : List ℕ) (raw : ℕ) → raw_given settings slot text ≡ Ok raw → given_by (is_units (attribute_at slot)) (kind_now settings slot) text ≡ Ok raw
+unfolding raw_given
+given_of settings slot text raw e = (given_where (is_assignable slot) _ raw e).1
 
 pub kept_short : (settings : Settings) (slot : Slot) (text : List ℕ) (raw : ℕ) → Ok raw ≡ raw_given settings slot text → IfSome (kept_by (type_at slot) (attribute_at slot) text) (λ _. length text ≤ 128)
 unfolding raw_given

@@ -60,12 +60,25 @@ twenty_ones x y a b h k e = (omega arith, omega arith)
 eights : (x y a b : ℕ) → a < 8 → b < 8 → x * 8 + a ≡ y * 8 + b → (x ≡ y) × (a ≡ b)
 eights x y a b h k e = (omega arith, omega arith)
 
-same_slot : (s t : Slot) → s.block ≡ t.block → s.instance ≡ t.instance → s.field ≡ t.field → s.attr ≡ t.attr → s ≡ t
+pub same_slot : (s t : Slot) → s.block ≡ t.block → s.instance ≡ t.instance → s.field ≡ t.field → s.attr ≡ t.attr → s ≡ t
 same_slot s t b i f a =
     ap (λ x. slot_at x s.instance s.field s.attr) b
     ∙ ap (λ x. slot_at t.block x s.field s.attr) i
     ∙ ap (λ x. slot_at t.block t.instance x s.attr) f
     ∙ ap (λ x. slot_at t.block t.instance t.field x) a
+
+-- no two instances have the same place
+pub one_instance : (s t : Slot) → IsSlot s → IsSlot t → instance_place s ≡ instance_place t → (s.block ≡ t.block) × (s.instance ≡ t.instance)
+one_instance s t is it e =
+    let fs = few s is in
+    let ft = few t it in
+    let i : s.instance ≤ 8 = fs.instance in
+    let j : t.instance ≤ 8 = ft.instance in
+    let k : 1 ≤ s.instance = fs.from_one in
+    let l : 1 ≤ t.instance = ft.from_one in
+    let blocks = eights s.block t.block (s.instance - 1) (t.instance - 1) (omega arith) (omega arith) e in
+    let same : s.instance - 1 ≡ t.instance - 1 = blocks.1 in
+    (blocks.0, omega arith)
 
 -- no two slots have the same place
 pub one_place : (s t : Slot) → IsSlot s → IsSlot t → place s ≡ place t → s ≡ t
@@ -74,13 +87,8 @@ one_place s t is it e =
     let ft = few t it in
     let attrs = sevens (instance_place s * 21 + s.field) (instance_place t * 21 + t.field) s.attr t.attr fs.attr ft.attr e in
     let fields = twenty_ones (instance_place s) (instance_place t) s.field t.field fs.field ft.field attrs.0 in
-    let i : s.instance ≤ 8 = fs.instance in
-    let j : t.instance ≤ 8 = ft.instance in
-    let k : 1 ≤ s.instance = fs.from_one in
-    let l : 1 ≤ t.instance = ft.from_one in
-    let blocks = eights s.block t.block (s.instance - 1) (t.instance - 1) (omega arith) (omega arith) fields.0 in
-    let same : s.instance - 1 ≡ t.instance - 1 = blocks.1 in
-    same_slot s t blocks.0 (omega arith) fields.1 attrs.1
+    let instances = one_instance s t is it fields.0 in
+    same_slot s t instances.0 instances.1 fields.1 attrs.1
 
 -- a slot can be read from its place
 

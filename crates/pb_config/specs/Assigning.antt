@@ -1,6 +1,6 @@
 -- What an assignment does: which slots take one, which raw value a text gives, why it is refused, and
 -- what the settings are afterwards.
-use Rattle.std.specs.Prelude.{ℕ, nat_le, not, Bool, true, false, List, length, slice_set, Option, Some, None, Result, Ok, Err, if◌then◌else◌}
+use Rattle.std.specs.Prelude.{ℕ, nat_le, not, Bool, true, false, List, [], length, slice_set, is_some, Option, Some, None, Result, Ok, Err, if◌then◌else◌}
 use Rattle.pb_words.specs.Steps.{result_map}
 use Rattle.pb_words.specs.declared.Refusal.{Refusal}
 use Rattle.pb_words.specs.declared.Refusal.TheVariants as refusals
@@ -63,6 +63,10 @@ kept_of_attribute attribute text = None
 abbrev pub kept_by : FieldType → Option Attribute → List ℕ → Option (List ℕ)
 kept_by t None text = kept_of_field t text
 kept_by t (Some attribute) text = kept_of_attribute attribute text
+
+-- the slot keeps the text that is assigned to it
+abbrev pub keeps_text : Slot → Bool
+keeps_text slot = is_some (kept_by (type_at slot) (attribute_at slot) [])
 
 abbrev pub with_text : List (List ℕ) → ℕ → Option (List ℕ) → List (List ℕ)
 with_text texts i None = texts

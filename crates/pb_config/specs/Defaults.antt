@@ -83,6 +83,10 @@ default_at p = first_at (p / 1176) (p / 7 % 21) (p % 7)
 abbrev pub text_at : ℕ → List ℕ
 text_at i = if i / 8 == 3 then codes "0" else []
 
+-- the text that the instance of a slot keeps at first
+abbrev pub default_text : Slot → List ℕ
+default_text slot = if slot.block == 3 then codes "0" else []
+
 -- the values of the first n places
 unfoldable pub first_raws : ℕ → List ℕ
 first_raws n = map default_at (range_with_len 0 n)

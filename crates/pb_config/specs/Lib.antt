@@ -3,3 +3,4 @@ pub mod Defaults
 pub mod Assigning
 pub mod Showing
 pub mod Kept
+pub mod Reached

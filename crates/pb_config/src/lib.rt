@@ -16,7 +16,10 @@ mod showing;
 mod texts;
 
 pub use configs::Config;
-pub use laws::{fresh_values, places_are_distinct};
+pub use laws::{
+    assigned_here, fresh_texts, fresh_values, kept_function_is_the_number, others_stay,
+    places_are_distinct, texts_stay,
+};
 pub use places::field_slot;
 pub use showing::has_line;
 
