@@ -1,4 +1,5 @@
 pub mod RowLemmas
+pub mod DefaultLemmas
 pub mod FindingLemmas
 pub mod BlockNameLemmas
 pub mod RunLemmas

@@ -18,7 +18,7 @@ use Rattle.pb_fields.specs.Catalogue.{catalogue}
 use Rattle.pb_fields.specs.Places.{block_of, count_of, field_of, type_of}
 use Rattle.pb_fields.specs.Slots.{IsSlot, attributes_at, attribute_at}
 use Rattle.pb_fields.specs.Names.{number_text, instance_text, attribute_end, target_of, IsNameOf}
-use Rattle.pb_fields.specs.Finding.{is_point, before_point, after_point, stem_of, number_of, block_with, block_named, instance_numbered, field_named, attribute_named, or_refused, slot_named, slot_after, found_of}
+use Rattle.pb_fields.specs.Finding.{is_point, before_point, after_point, stem_of, number_of, block_with, block_named, instance_numbered, field_named, attribute_named, or_refused, slot_named, slot_of_rest, found_of}
 use Rattle.pb_fields.proofs.RowLemmas.{count_few}
 use Rattle.pb_fields.proofs.EntryLaws.{agree}
 use Rattle.pb_fields.proofs.RunLemmas.{of_fields}
@@ -143,10 +143,10 @@ pub found_of-text : (slot : Slot) (name : List ℕ) → IsSlot slot → list_all
 found_of-text slot name s plain named numbered =
     let rest : List ℕ = (field_of slot.block slot.field).name ++ attribute_end (attribute_at slot) in
     let text : List ℕ = name ++ 46 ∷ rest in
-    ap (λ n. or_refused (block_named n) refusals.NoSuchBlock (λ b. or_refused (instance_numbered (count_of b) (number_of n)) refusals.BlockNumberOutOfRange (λ i. slot_after b i (after_point text)))) (before-cut name rest plain)
-    ∙ ap (λ o. or_refused o refusals.NoSuchBlock (λ b. or_refused (instance_numbered (count_of b) (number_of name)) refusals.BlockNumberOutOfRange (λ i. slot_after b i (after_point text)))) named
-    ∙ ap (λ o. or_refused o refusals.BlockNumberOutOfRange (λ i. slot_after slot.block i (after_point text))) numbered
-    ∙ ap (slot_after slot.block slot.instance) (after-cut name rest plain)
+    ap (λ n. or_refused (block_named n) refusals.NoSuchBlock (λ b. or_refused (instance_numbered (count_of b) (number_of n)) refusals.BlockNumberOutOfRange (λ i. slot_of_rest b i (after_point text)))) (before-cut name rest plain)
+    ∙ ap (λ o. or_refused o refusals.NoSuchBlock (λ b. or_refused (instance_numbered (count_of b) (number_of name)) refusals.BlockNumberOutOfRange (λ i. slot_of_rest b i (after_point text)))) named
+    ∙ ap (λ o. or_refused o refusals.BlockNumberOutOfRange (λ i. slot_of_rest slot.block i (after_point text))) numbered
+    ∙ ap (slot_of_rest slot.block slot.instance) (after-cut name rest plain)
     ∙ slot_named-text slot s
 
 pub found_of-target : (slot : Slot) → IsSlot slot → found_of (target_of slot) ≡ Ok slot

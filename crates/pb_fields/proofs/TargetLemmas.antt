@@ -84,7 +84,7 @@ block_letters b = all_at (λ r. none_pass is_ascii_digit r.name) catalogue (bloc
 pub field_plain : (b f : ℕ) → none_pass is_point (field_of b f).name ≡ true
 unfolding catalogue
 field_plain b f =
-    all_at (λ r. none_pass is_point r.name) (fields_of b) (field [] types.Table) f
+    all_at (λ r. none_pass is_point r.name) (fields_of b) (field [] types.Table 0) f
     (all_at (λ r. list_all (λ s. none_pass is_point s.name) r.fields) catalogue (block [] 0 []) b refl refl)
     refl
 

@@ -14,6 +14,7 @@ use crate::slots::Slot;
 use crate::tables::{Field, block_at, field_at};
 use crate::types::{Attribute, attribute_name, attributes};
 use indexmap::IndexMap;
+use pb_names::ITSELF;
 use pb_words::{OutOfMemory, Refusal};
 use std::alloc::Global;
 
@@ -197,7 +198,7 @@ fn first_field(rows: &[Field], name: &[u8]) -> Option<usize>
     rows.iter().position(|row| row.0 == name)
 }
 
-/// The attribute of that name, counted from 1; 0 where none is named.
+/// The attribute of that name, counted from 1; the field itself where none is named.
 fn attribute_named(block: u8, field: u8, name: Option<&[u8]>) -> Option<u8>
     requires block { block < 12 }
     requires field { field < length (fields_of block) }
@@ -205,7 +206,7 @@ fn attribute_named(block: u8, field: u8, name: Option<&[u8]>) -> Option<u8>
     ensures attribute { IfSome result (λ attr. attr ≤ length (attributes_of (type_of block field))) }
 {
     let Some(name) = name else {
-        return Some(0);
+        return Some(ITSELF);
     };
     match first_attribute(attributes(field_at(block, field).1), name) {
         Some(place) => Some(place as u8 + 1),

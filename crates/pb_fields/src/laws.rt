@@ -4,14 +4,14 @@ ghost use Rattle.pb_fields.specs.Entries.{entry_of, at_entry_of, is_bit_out, is_
 ghost use Rattle.pb_fields.specs.Labels.{bit_names, position_names};
 ghost use Rattle.pb_fields.specs.Finding.{found_of};
 ghost use Rattle.pb_fields.specs.Names.{target_of, IsNameOf};
-ghost use Rattle.pb_fields.specs.Order.{following_of, slot_after, slots, visits, Precedes};
+ghost use Rattle.pb_fields.specs.Order.{following_of, next_slot, slots, visits, Precedes};
 ghost use Rattle.pb_fields.specs.Slots.{IsSlot, type_at};
 
 /// From the first slot on, each of all slots is visited, once and in order.
 pub fn following_visits_every_slot_once()
     ensures walk { visits 2000 (following_of None) ≡ slots }
     ensures every { (slot : Slot) → IsSlot slot → Contains slots slot }
-    ensures once { (slot : Slot) → IfSome (slot_after slot) (λ next. Precedes slot next) }
+    ensures once { (slot : Slot) → IfSome (next_slot slot) (λ next. Precedes slot next) }
 {}
 
 /// An entry is driven by the output that drives it, and by outputs alone.

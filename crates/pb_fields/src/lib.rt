@@ -34,7 +34,8 @@ pub use orders::following;
 pub use roles::Role;
 pub use showing::show;
 pub use slots::{
-    Slot, attribute, block_name, field_count, field_name, field_type, instances, kind, role,
+    Slot, attribute, block_name, default_value, field_count, field_name, field_type, instances,
+    kind, role,
 };
 pub use spelling::spell;
 pub use types::{Attribute, FieldType, attribute_name, attributes, is_assigned, type_name};
@@ -42,8 +43,3 @@ pub use values::{
     printed_values_are_spelled, selections_are_small, texts_are_refused_once, values_are_computed,
     values_are_spelled_once, values_by_example,
 };
-
-#[cfg(test)]
-mod tests;
-#[cfg(test)]
-mod values_tests;

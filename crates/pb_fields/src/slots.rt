@@ -1,11 +1,14 @@
 ghost use Rattle.std.specs.Prelude.{◌≡◌, ◌<◌, ◌≤◌, ◌++◌, length, drop};
 ghost use Rattle.pb_fields.specs.Places.{block_of, count_of, field_of, fields_of};
-ghost use Rattle.pb_fields.specs.Slots.{IsSlot, kind_of, role_at, type_at, attribute_at};
+ghost use Rattle.pb_fields.specs.Slots.{IsSlot, kind_of, role_at, type_at, attribute_at, default_of};
 
 use crate::kinds::FieldKind;
 use crate::roles::Role;
 use crate::tables::{block_at, field_at};
-use crate::types::{Attribute, FieldType, attribute_kind, attributes, field_kind, field_role};
+use crate::types::{
+    Attribute, FieldType, attribute_default, attribute_kind, attributes, field_kind, field_role,
+};
+use pb_names::{ITSELF, pcap};
 use pb_words::put_front;
 
 /// One field or one attribute of the catalogue.
@@ -17,7 +20,7 @@ pub struct Slot {
     pub instance: u8,
     /// The place of the field in its block, from 0.
     pub field: u8,
-    /// 0 for the field itself, else the place of the attribute in the list of its type, from 1.
+    /// `ITSELF` for the field itself, else the place of the attribute in the list of its type, from 1.
     pub attr: u8,
 }
 
@@ -63,7 +66,7 @@ pub fn role(slot: Slot) -> Role
     requires { IsSlot slot }
     ensures { result ≡ role_at slot }
 {
-    if slot.attr == 0 {
+    if slot.attr == ITSELF {
         field_role(field_type(slot))
     } else {
         Role::Attr
@@ -91,9 +94,27 @@ pub fn attribute(slot: Slot) -> Option<Attribute>
     requires { IsSlot slot }
     ensures { result ≡ attribute_at slot }
 {
-    if slot.attr == 0 {
+    if slot.attr == ITSELF {
         None
     } else {
         Some(attributes(field_type(slot))[slot.attr as usize - 1])
+    }
+}
+
+/// The raw value that the slot has at first; 0 where the catalogue has no such slot.
+#[tactic(auto, using(crate::proofs::DefaultLemmas::defaults))]
+pub fn default_value(slot: Slot) -> u64
+    ensures { result ≡ default_of slot }
+{
+    if slot.block > pcap::BLOCK || slot.field >= field_count(slot.block) {
+        return 0;
+    }
+    let field = field_at(slot.block, slot.field);
+    if slot.attr == ITSELF {
+        return field.2;
+    }
+    match attributes(field.1).get(slot.attr as usize - 1) {
+        Some(attribute) => attribute_default(*attribute),
+        None => 0,
     }
 }
