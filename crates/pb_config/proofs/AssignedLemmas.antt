@@ -1,12 +1,12 @@
 -- What an assignment leaves, and what is true of all settings that assignments reach.
-use Rattle.std.proofs.Common.{◌≡◌, ◌≢◌, ℕ, ◌-◌, ◌<◌, ◌≤◌, ◌+◌, ◌==◌, ◌&&◌, ◌||◌, ◌⊎◌, Bool, true, false, not, List, [], ◌∷◌, length, codes, get_or, set, Option, Some, None, Result, Ok, Err, is_some, slice_index_or, slice_set, if◌then◌else◌, refl, sym, ap, inl, inr, subst, ◌∙◌, arith}
+use Rattle.std.proofs.Common.{◌≡◌, ◌≢◌, ℕ, ◌-◌, ◌<◌, ◌≤◌, ◌==◌, ◌&&◌, ◌||◌, ◌⊎◌, Bool, true, false, not, List, [], length, codes, Option, Some, None, Result, Ok, Err, is_some, slice_index_or, refl, sym, ap, inl, inr, subst, ◌∙◌, arith}
 use Rattle.std.proofs.lemmas.Bool.{eqb-true, cases_eq}
 use Rattle.std.proofs.lemmas.List.{length-set, get_or-set_same, get_or-set_other}
 use Rattle.pb_words.specs.declared.Refusal.{Refusal}
-use Rattle.pb_words.specs.declared.Refusal.TheVariants as refusals
 use Rattle.pb_lut.specs.Functions.{WritesFunction, without_spaces}
 use Rattle.pb_lut.specs.Computed.{expression_of, tree_at, function_of}
 use Rattle.pb_lut.proofs.ComputedLemmas.{function_written}
+use Rattle.pb_names.specs.declared.lut.TheConstants as lut
 use Rattle.pb_fields.specs.declared.Slot.{Slot}
 use Rattle.pb_fields.specs.declared.FieldType.{FieldType}
 use Rattle.pb_fields.specs.declared.FieldType.TheVariants as types
@@ -15,12 +15,13 @@ use Rattle.pb_fields.specs.declared.Attribute.TheVariants as attributes
 use Rattle.pb_fields.specs.Types.{attributes_of}
 use Rattle.pb_fields.specs.Places.{type_of}
 use Rattle.pb_fields.specs.Catalogue.{catalogue}
-use Rattle.pb_fields.specs.Slots.{IsSlot, type_at, attribute_at, attributes_at}
+use Rattle.pb_fields.specs.Slots.{IsSlot, type_at, attribute_at, default_of}
+use Rattle.pb_fields.specs.Order.{slot_at}
 use Rattle.pb_fields.specs.Spelled.{spelled, read_as}
 use Rattle.pb_fields.proofs.RowLemmas.{and_left, and_right, all_within}
-use Rattle.pb_config.specs.Settings.{Settings, place, instance_place, field_slot, units_slot, raw_of, text_of, place_count, instance_count, kind_in}
-use Rattle.pb_config.specs.Defaults.{fresh, first_at, default_of, default_text, first_texts, text_at}
-use Rattle.pb_config.specs.Assigning.{raw_given, is_units, units_given, target_by, target, kept_by, keeps_text, with_text, assigned, after_by, after_assignment}
+use Rattle.pb_config.specs.Settings.{Settings, place, instance_place, units_slot, raw_of, text_of, place_count, instance_count, kind_in}
+use Rattle.pb_config.specs.Defaults.{fresh, text_of_block}
+use Rattle.pb_config.specs.Assigning.{raw_given, is_units, target_by, target, kept_by, keeps_text, with_text, assigned, after_by, after_assignment}
 use Rattle.pb_config.specs.Reached.{IsReached, at_first, by_assignment}
 use Rattle.pb_config.proofs.PlaceLemmas.{place_within, few, one_place}
 use Rattle.pb_config.proofs.KindLemmas.{which, unlike, no_ticks, given_by, given_of}
@@ -195,7 +196,7 @@ written_after settings slot other text (Ok raw) e w s t f h =
 
 -- at first each function is `0`
 first_at_zero : ℕ → ℕ → ℕ → Bool
-first_at_zero b f a = not (is_function_by (type_of b f) (attribute_by (type_of b f) a)) || (b == 3 && first_at b f a == 0)
+first_at_zero b f a = not (is_function_by (type_of b f) (attribute_by (type_of b f) a)) || (b == lut.BLOCK && default_of (slot_at b 1 f a) == 0)
 
 all_zero : all_of first_at_zero ≡ true
 unfolding first_at_zero catalogue
@@ -209,9 +210,9 @@ written_first : (slot : Slot) → IsSlot slot → is_function slot ≡ true → 
 unfolding IsWritten first_at_zero
 written_first slot s f =
     let h = where_so (is_function slot) _ (at_each first_at_zero all_zero slot s) f in
-    let block : slot.block ≡ 3 = eqb-true _ _ (and_left _ _ h) in
+    let block : slot.block ≡ lut.BLOCK = eqb-true _ _ (and_left _ _ h) in
     let value : default_of slot ≡ 0 = eqb-true _ _ (and_right _ _ h) in
-    ap function_of (fresh_text slot s ∙ ap (λ b. if b == 3 then codes "0" else []) block)
+    ap function_of (fresh_text slot s ∙ ap text_of_block block)
     ∙ (zero_function ∙ ap (λ n. Some n) (sym (fresh_value slot s ∙ value)))
 
 written : (settings : Settings) → IsReached settings → (slot : Slot) → IsSlot slot → is_function slot ≡ true → IsWritten settings slot

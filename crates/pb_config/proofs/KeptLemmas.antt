@@ -1,24 +1,23 @@
 -- All values of the settings are in their ranges: at first, and after one was assigned.
-use Rattle.std.proofs.Common.{◌≡◌, ℕ, ◌+◌, ◌-◌, ◌*◌, ◌/◌, ◌%◌, ◌<◌, ◌≤◌, ◌++◌, ◌==◌, ◌||◌, Bool, true, false, not, List, [], ◌∷◌, codes, length, map, set, get_or, slice_index_or, slice_set, Option, Some, None, if◌then◌else◌, refl, sym, ap, inl, inr, zero-add, subst, ◌∙◌, arith, leb, ltb}
-use Rattle.std.specs.List.{range_with_len, list_all}
+use Rattle.std.proofs.Common.{◌≡◌, ℕ, ◌+◌, ◌-◌, ◌*◌, ◌/◌, ◌%◌, ◌<◌, ◌≤◌, ◌++◌, ◌==◌, ◌||◌, Bool, true, false, not, List, [], ◌∷◌, length, map, set, get_or, slice_set, refl, sym, ap, inl, inr, subst, ◌∙◌, arith, leb, ltb}
+use Rattle.std.specs.List.{range_with_len}
 use Rattle.std.proofs.lemmas.Bool.{leb-true, ltb-true, eqb-true, ne_eqb, cases_eq}
 use Rattle.std.proofs.lemmas.List.{length-set, get_or-set_same, get_or-set_other}
-use Rattle.std.proofs.lemmas.List.FromFn.{length-range_with_len, get_or-range_with_len, length-map-range_with_len, get_or-map-range_with_len, map-range_with_len_more}
+use Rattle.std.proofs.lemmas.List.FromFn.{length-map-range_with_len, get_or-map-range_with_len, map-range_with_len_more}
+use Rattle.pb_names.specs.declared.bit_bus.TheConstants as bit_bus
+use Rattle.pb_names.specs.declared.position_bus.TheConstants as position_bus
 use Rattle.pb_fields.specs.declared.Slot.{Slot}
-use Rattle.pb_fields.specs.declared.FieldType.{FieldType}
 use Rattle.pb_fields.specs.declared.FieldKind.{FieldKind}
 use Rattle.pb_fields.specs.declared.FieldKind.TheVariants as kinds
-use Rattle.pb_fields.specs.declared.Attribute.{Attribute}
-use Rattle.pb_fields.specs.declared.Attribute.TheVariants as attributes
-use Rattle.pb_fields.specs.Types.{attributes_of}
 use Rattle.pb_fields.specs.Labels.{label_list}
 use Rattle.pb_fields.specs.Places.{type_of}
 use Rattle.pb_fields.specs.Catalogue.{catalogue}
-use Rattle.pb_fields.specs.Slots.{IsSlot, kind_of, kind_by}
+use Rattle.pb_fields.specs.Order.{slot_at}
+use Rattle.pb_fields.specs.Slots.{IsSlot, kind_of, kind_by, default_of}
 use Rattle.pb_fields.specs.Values.{IsRaw}
-use Rattle.pb_fields.proofs.RowLemmas.{all_within}
+use Rattle.pb_config.proofs.TextLemmas.{attribute_by, all_of, at_each, where_so}
 use Rattle.pb_config.specs.Settings.{place, instance_place, raw_of, text_of}
-use Rattle.pb_config.specs.Defaults.{default_of, default_text, default_at, text_at, first_at, first_raws, first_texts, fresh}
+use Rattle.pb_config.specs.Defaults.{default_text, default_at, text_of_block, first_raws, first_texts, fresh}
 use Rattle.pb_config.specs.Kept.{IsKept, CanBe, is_kept_by, is_kept}
 use Rattle.pb_config.proofs.PlaceLemmas.{few, place_within, one_place, place_attr, place_rest, place_field, place_block}
 
@@ -58,9 +57,9 @@ pub no_texts : [] ≡ first_texts 0
 unfolding first_texts
 no_texts = refl
 
-pub more_texts : (n : ℕ) (texts : List (List ℕ)) (text : List ℕ) → texts ≡ first_texts n → text ≡ text_at n → texts ++ text ∷ [] ≡ first_texts (n + 1)
+pub more_texts : (n : ℕ) (texts : List (List ℕ)) (text : List ℕ) → texts ≡ first_texts n → text ≡ text_of_block (n / 8) → texts ++ text ∷ [] ≡ first_texts (n + 1)
 unfolding first_texts
-more_texts n texts text e f = ap (λ l. l ++ text ∷ []) e ∙ ap (λ x. map text_at (range_with_len 0 n) ++ x ∷ []) f ∙ sym (map-range_with_len_more text_at 0 n n (omega arith))
+more_texts n texts text e f = ap (λ l. l ++ text ∷ []) e ∙ ap (λ x. map (λ i. text_of_block (i / 8)) (range_with_len 0 n) ++ x ∷ []) f ∙ sym (map-range_with_len_more (λ i. text_of_block (i / 8)) 0 n n (omega arith))
 
 pub raws_length : (n : ℕ) → length (first_raws n) ≡ n
 unfolding first_raws
@@ -68,7 +67,7 @@ raws_length n = length-map-range_with_len default_at 0 n
 
 pub texts_length : (n : ℕ) → length (first_texts n) ≡ n
 unfolding first_texts
-texts_length n = length-map-range_with_len text_at 0 n
+texts_length n = length-map-range_with_len (λ i. text_of_block (i / 8)) 0 n
 
 raws_at : (n i : ℕ) → i < n → get_or (first_raws n) i 0 ≡ default_at i
 unfolding first_raws
@@ -81,8 +80,8 @@ fits (kinds.Uint limit) raw = leb raw limit
 fits kinds.Int raw = raw == 0
 fits kinds.Bit raw = leb raw 1
 fits (kinds.Enum labels) raw = ltb raw (length (label_list labels))
-fits kinds.BitMux raw = raw == 128 || raw == 129
-fits kinds.PosMux raw = raw == 32
+fits kinds.BitMux raw = raw == bit_bus.ZERO || raw == bit_bus.ONE
+fits kinds.PosMux raw = raw == position_bus.ZERO
 fits kinds.Decimal raw = raw == 0 || raw == 1000000000
 fits (kinds.Time limit units) raw = leb raw limit
 fits kinds.Lut raw = raw == 0
@@ -99,13 +98,13 @@ one_of raw a b P e pa pb =
 the_one : (raw a : ℕ) (P : ℕ → Type 0) → (raw == a) ≡ true → P a → P raw
 the_one raw a P e pa = subst P (sym (eqb-true raw a e)) pa
 
-bit_zero_in : IsRaw kinds.BitMux 128
+bit_zero_in : IsRaw kinds.BitMux bit_bus.ZERO
 bit_zero_in = refl
 
-bit_one_in : IsRaw kinds.BitMux 129
+bit_one_in : IsRaw kinds.BitMux bit_bus.ONE
 bit_one_in = refl
 
-position_zero_in : IsRaw kinds.PosMux 32
+position_zero_in : IsRaw kinds.PosMux position_bus.ZERO
 position_zero_in = refl
 
 int_zero_in : IsRaw kinds.Int 0
@@ -123,8 +122,8 @@ fits_in (kinds.Uint limit) raw e = leb-true raw limit e
 fits_in kinds.Int raw e = the_one raw 0 (λ v. IsRaw kinds.Int v) e int_zero_in
 fits_in kinds.Bit raw e = leb-true raw 1 e
 fits_in (kinds.Enum labels) raw e = ltb-true raw _ e
-fits_in kinds.BitMux raw e = one_of raw 128 129 (λ v. IsRaw kinds.BitMux v) e bit_zero_in bit_one_in
-fits_in kinds.PosMux raw e = the_one raw 32 (λ v. IsRaw kinds.PosMux v) e position_zero_in
+fits_in kinds.BitMux raw e = one_of raw bit_bus.ZERO bit_bus.ONE (λ v. IsRaw kinds.BitMux v) e bit_zero_in bit_one_in
+fits_in kinds.PosMux raw e = the_one raw position_bus.ZERO (λ v. IsRaw kinds.PosMux v) e position_zero_in
 fits_in kinds.Decimal raw e = one_of raw 0 1000000000 (λ v. IsRaw kinds.Decimal v) e decimal_zero_in decimal_one_in
 fits_in (kinds.Time limit units) raw e = leb-true raw limit e
 fits_in kinds.Lut raw e = the_one raw 0 (λ v. IsRaw kinds.Lut v) e (omega arith)
@@ -133,42 +132,18 @@ fits_in kinds.Text raw e = absurd (cc)
 
 -- each default is in its range, tried at all places of a block's instance
 
-abbrev pub attribute_by : FieldType → ℕ → Option Attribute
-attribute_by t a = if a == 0 then None else Some (slice_index_or (attributes_of t) (a - 1) attributes.Info)
-
 fits_at : ℕ → ℕ → ℕ → Bool
 fits_at b f a =
-    not (is_kept_by (type_of b f) (attribute_by (type_of b f) a)) || fits (kind_by (type_of b f) (attribute_by (type_of b f) a)) (first_at b f a)
+    not (is_kept_by (type_of b f) (attribute_by (type_of b f) a)) || fits (kind_by (type_of b f) (attribute_by (type_of b f) a)) (default_of (slot_at b 1 f a))
 
-abbrev fits_field : ℕ → ℕ → Bool
-fits_field b f = list_all (fits_at b f) (range_with_len 0 7)
-
-abbrev fits_block : ℕ → Bool
-fits_block b = list_all (fits_field b) (range_with_len 0 21)
-
-all_fit : list_all fits_block (range_with_len 0 12) ≡ true
+all_fit : all_of fits_at ≡ true
 unfolding fits_at fits catalogue label_list
 all_fit = refl
-
-at_number : (p : ℕ → Bool) (n i : ℕ) → list_all p (range_with_len 0 n) ≡ true → i < n → p i ≡ true
-at_number p n i h lt =
-    let size : length (range_with_len 0 n) ≡ n = length-range_with_len 0 n in
-    let e : get_or (range_with_len 0 n) i 0 ≡ i = get_or-range_with_len 0 n i 0 lt ∙ zero-add i in
-    subst (λ x. p x ≡ true) e (all_within p (range_with_len 0 n) 0 i h (omega arith))
-
-each_fits : (b f a : ℕ) → b < 12 → f < 21 → a < 7 → fits_at b f a ≡ true
-each_fits b f a h k l =
-    at_number (fits_at b f) 7 a (at_number (fits_field b) 21 f (at_number fits_block 12 b all_fit h) k) l
-
-where_kept : (x y : Bool) → (not x || y) ≡ true → x ≡ true → y ≡ true
-where_kept true y h e = h
-where_kept false y h e = absurd (cc)
 
 default_can_be : (slot : Slot) → IsSlot slot → CanBe slot (default_of slot)
 unfolding fits_at
 default_can_be slot is kept =
-    let f = few slot is in
-    fits_in (kind_of slot) (default_of slot) (where_kept (is_kept slot) _ (each_fits slot.block slot.field slot.attr f.block f.field f.attr) kept)
+    fits_in (kind_of slot) (default_of slot) (where_so (is_kept slot) _ (at_each fits_at all_fit slot is) kept)
 
 default_by_place : (slot : Slot) → IsSlot slot → default_at (place slot) ≡ default_of slot
 default_by_place slot is =
@@ -179,16 +154,16 @@ default_by_place slot is =
     let a : place slot % 7 ≡ slot.attr = place_attr (instance_place slot * 21 + slot.field) slot.attr f.attr in
     let r : place slot / 7 ≡ instance_place slot * 21 + slot.field = place_rest (instance_place slot * 21 + slot.field) slot.attr f.attr in
     let m : place slot / 7 % 21 ≡ slot.field = ap (λ x. x % 21) r ∙ place_field (instance_place slot) slot.field f.field in
-    ap (λ x. first_at x (place slot / 7 % 21) (place slot % 7)) b
-    ∙ ap (λ x. first_at slot.block x (place slot % 7)) m
-    ∙ ap (λ x. first_at slot.block slot.field x) a
+    ap (λ x. default_of (slot_at x 1 (place slot / 7 % 21) (place slot % 7))) b
+    ∙ ap (λ x. default_of (slot_at slot.block 1 x (place slot % 7))) m
+    ∙ ap (λ x. default_of (slot_at slot.block 1 slot.field x)) a
 
 pub fresh_value : (slot : Slot) → IsSlot slot → raw_of fresh slot ≡ default_of slot
 fresh_value slot is = raws_at 14112 (place slot) (place_within slot is) ∙ default_by_place slot is
 
-texts_at : (n i : ℕ) → i < n → get_or (first_texts n) i [] ≡ text_at i
+texts_at : (n i : ℕ) → i < n → get_or (first_texts n) i [] ≡ text_of_block (i / 8)
 unfolding first_texts
-texts_at n i lt = get_or-map-range_with_len text_at 0 n i i [] lt (omega arith)
+texts_at n i lt = get_or-map-range_with_len (λ i. text_of_block (i / 8)) 0 n i i [] lt (omega arith)
 
 instance_block : (b i : ℕ) → i < 8 → (b * 8 + i) / 8 ≡ b
 instance_block b i h = omega arith
@@ -200,7 +175,7 @@ fresh_text slot is =
     let i : slot.instance ≤ 8 = f.instance in
     let from : 1 ≤ slot.instance = f.from_one in
     texts_at 96 (instance_place slot) (omega arith)
-    ∙ ap (λ x. if x == 3 then codes "0" else []) (instance_block slot.block (slot.instance - 1) (omega arith))
+    ∙ ap text_of_block (instance_block slot.block (slot.instance - 1) (omega arith))
 
 fresh_can_be : (slot : Slot) → IsSlot slot → place slot < 14112 → CanBe slot (raw_of fresh slot)
 fresh_can_be slot is lt =

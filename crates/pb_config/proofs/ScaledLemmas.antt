@@ -1,5 +1,5 @@
 -- SCALE and OFFSET of a position that is shown scaled.
-use Rattle.std.proofs.Common.{◌≡◌, ℕ, ◌-◌, ◌<◌, ◌≤◌, ◌*◌, ◌^◌, ℤ, pos, negsuc, ◌*ℤ◌, FitsSigned, Bool, true, false, length, Option, Some, None, slice_index_or, unsigned_abs, inl, inr, refl, sym, ap, subst, arith}
+use Rattle.std.proofs.Common.{◌≡◌, ℕ, ◌-◌, ◌<◌, ◌≤◌, ◌*◌, ◌^◌, ℤ, pos, negsuc, ◌*ℤ◌, FitsSigned, Bool, true, false, length, Option, Some, slice_index_or, unsigned_abs, inl, inr, refl, sym, ap, subst, arith}
 use Rattle.std.proofs.lemmas.Bool.{cases_eq}
 use Rattle.std.proofs.lemmas.Int.{unsigned_abs-mul}
 use Rattle.std.proofs.lemmas.Nat.{mul-le}
@@ -16,7 +16,7 @@ use Rattle.pb_fields.specs.Values.{IsRaw}
 use Rattle.pb_fields.proofs.RowLemmas.{all_within}
 use Rattle.pb_config.specs.Showing.{is_scaled_by, is_scaled}
 use Rattle.pb_config.specs.Kept.{CanBe, is_kept_by}
-use Rattle.pb_config.proofs.KeptLemmas.{attribute_by}
+use Rattle.pb_config.proofs.TextLemmas.{attribute_by}
 use Rattle.pb_config.proofs.KindLemmas.{which, unlike}
 
 abbrev not_scaled : Attribute → Bool
@@ -44,29 +44,8 @@ scaled_type types.PosMux i lt e = absurd (unlike not_scaled _ _ (all_within not_
 scaled_type types.Table i lt e = absurd (unlike not_scaled _ _ (all_within not_scaled (attributes_of types.Table) attributes.Info i refl lt) e refl)
 
 which_is_scaled : (o : Option Attribute) → is_scaled_by o ≡ true → o ≡ Some attributes.Scaled
-which_is_scaled None e = absurd (cc)
-which_is_scaled (Some attributes.Info) e = absurd (cc)
-which_is_scaled (Some attributes.Max) e = absurd (cc)
-which_is_scaled (Some attributes.Labels) e = absurd (cc)
-which_is_scaled (Some attributes.LutRaw) e = absurd (cc)
-which_is_scaled (Some attributes.TimeUnits) e = absurd (cc)
-which_is_scaled (Some attributes.TimeRaw) e = absurd (cc)
-which_is_scaled (Some attributes.CaptureWord) e = absurd (cc)
-which_is_scaled (Some attributes.BitOffset) e = absurd (cc)
-which_is_scaled (Some attributes.PosCapture) e = absurd (cc)
-which_is_scaled (Some attributes.Offset) e = absurd (cc)
-which_is_scaled (Some attributes.Scale) e = absurd (cc)
-which_is_scaled (Some attributes.Units) e = absurd (cc)
 which_is_scaled (Some attributes.Scaled) e = refl
-which_is_scaled (Some attributes.ExtCapture) e = absurd (cc)
-which_is_scaled (Some attributes.Bits) e = absurd (cc)
-which_is_scaled (Some attributes.Delay) e = absurd (cc)
-which_is_scaled (Some attributes.MaxDelay) e = absurd (cc)
-which_is_scaled (Some attributes.MaxLength) e = absurd (cc)
-which_is_scaled (Some attributes.Length) e = absurd (cc)
-which_is_scaled (Some attributes.RowWords) e = absurd (cc)
-which_is_scaled (Some attributes.Fields) e = absurd (cc)
-which_is_scaled (Some attributes.Base64) e = absurd (cc)
+which_is_scaled o e = absurd (cc)
 
 is_position : (slot : Slot) → IsSlot slot → is_scaled slot ≡ true → type_at slot ≡ types.PosOut
 is_position slot s e =

@@ -1,11 +1,16 @@
 -- Which slots keep a text: at most one of each instance. What is kept of a function writes its number.
-use Rattle.std.proofs.Common.{◌≡◌, ◌≢◌, ℕ, ◌-◌, ◌<◌, ◌≤◌, ◌+◌, ◌==◌, ◌&&◌, ◌||◌, ◌⊎◌, Bool, true, false, not, List, [], ◌∷◌, length, filter, Option, Some, None, Result, Ok, Err, slice_index_or, is_some, nat_lt, if◌then◌else◌, refl, sym, ap, inl, inr, subst, ◌∙◌, arith}
+use Rattle.std.proofs.Common.{◌≡◌, ℕ, ◌-◌, ◌<◌, ◌≤◌, ◌==◌, ◌&&◌, ◌||◌, ◌⊎◌, Bool, true, false, not, List, [], ◌∷◌, length, Option, Some, None, slice_index_or, is_some, nat_lt, if◌then◌else◌, refl, sym, ap, inl, inr, subst, ◌∙◌, arith}
 use Rattle.std.specs.List.{list_all, range_with_len}
-use Rattle.std.proofs.lemmas.Bool.{eqb-true, cases_eq, le-ltb, ltb-false}
+use Rattle.std.proofs.lemmas.Bool.{eqb-true, le-ltb, ltb-false}
 use Rattle.std.proofs.lemmas.List.Sums.{length-filter, count_by-le-length}
 use Rattle.std.proofs.lemmas.List.FromFn.{length-range_with_len, get_or-range_with_len}
 use Rattle.pb_lut.specs.Functions.{without_spaces}
 use Rattle.pb_lut.specs.Computed.{number_in, function_of}
+use Rattle.pb_names.specs.declared.TheConstants.{ITSELF}
+use Rattle.pb_names.specs.declared.lut.TheConstants as lut
+use Rattle.pb_names.specs.declared.inenc.TheConstants as inenc
+use Rattle.pb_names.specs.declared.counter.TheConstants as counter
+use Rattle.pb_names.specs.declared.pos_out.TheConstants as pos_out
 use Rattle.pb_fields.specs.declared.Slot.{Slot}
 use Rattle.pb_fields.specs.declared.FieldType.{FieldType}
 use Rattle.pb_fields.specs.declared.FieldType.TheVariants as types
@@ -52,10 +57,10 @@ where_so false y h e = absurd (cc)
 -- the place of the text in each block that keeps one
 
 text_field : ℕ → ℕ
-text_field b = if b == 3 then 5 else (if b == 7 then 8 else 0)
+text_field b = if b == lut.BLOCK then lut.FUNC else (if b == counter.BLOCK then counter.OUT else inenc.VAL)
 
 text_attr : ℕ → ℕ
-text_attr b = if b == 3 then 0 else 5
+text_attr b = if b == lut.BLOCK then ITSELF else pos_out.UNITS
 
 keeps_at : ℕ → ℕ → ℕ → Bool
 keeps_at b f a = is_some (kept_by (type_of b f) (attribute_by (type_of b f) a) [])

@@ -1,5 +1,7 @@
 -- The settings of the box: a raw value for each slot, and the texts that are kept as they were assigned.
 use Rattle.std.specs.Prelude.{ℕ, ◌+◌, ◌-◌, ◌*◌, List, [], slice_index_or, Option, Some, None}
+use Rattle.pb_names.specs.declared.TheConstants.{ITSELF}
+use Rattle.pb_names.specs.declared.time.TheConstants as time
 use Rattle.pb_fields.specs.declared.Slot.{Slot}
 use Rattle.pb_fields.specs.declared.FieldType.{FieldType}
 use Rattle.pb_fields.specs.declared.FieldType.TheVariants as types
@@ -40,11 +42,11 @@ text_of settings slot = slice_index_or settings.texts (instance_place slot) []
 
 -- the field of an attribute
 abbrev pub field_slot : Slot → Slot
-field_slot slot = record slot { attr = 0 }
+field_slot slot = record slot { attr = ITSELF }
 
 -- the attribute UNITS of a time
 abbrev pub units_slot : Slot → Slot
-units_slot slot = record slot { attr = 2 }
+units_slot slot = record slot { attr = time.UNITS }
 
 -- the kind of a value while the times of its field have these units
 abbrev pub field_kind_in : ℕ → FieldType → FieldKind

@@ -4,6 +4,8 @@ use Rattle.std.specs.Int.{w64, cast_signed}
 use Rattle.std.specs.Option.{unwrap_or}
 use Rattle.pb_words.specs.Decimals.{canonical}
 use Rattle.pb_words.specs.Hex.{hex_text}
+use Rattle.pb_names.specs.declared.bit_bus.TheConstants as bit_bus
+use Rattle.pb_names.specs.declared.pos_out.TheConstants as pos_out
 use Rattle.pb_fields.specs.declared.Slot.{Slot}
 use Rattle.pb_fields.specs.declared.FieldType.{FieldType}
 use Rattle.pb_fields.specs.declared.FieldType.TheVariants as types
@@ -83,7 +85,7 @@ attribute_shown settings slot t attributes.TimeRaw = decimal (raw_of settings (f
 attribute_shown settings slot t attributes.CaptureWord = word_name (bit_entry slot / 32)
 attribute_shown settings slot t attributes.BitOffset = decimal (bit_entry slot % 32)
 attribute_shown settings slot t attributes.Units = text_of settings slot
-attribute_shown settings slot t attributes.MaxDelay = decimal 31
+attribute_shown settings slot t attributes.MaxDelay = decimal bit_bus.MAX_DELAY
 attribute_shown settings slot t attributes.MaxLength = decimal 16384
 attribute_shown settings slot t attributes.RowWords = decimal 4
 attribute_shown settings slot t _ = raw_shown settings slot
@@ -108,9 +110,9 @@ is_scaled slot = is_scaled_by (attribute_at slot)
 abbrev pub decimal_at : Settings → Slot → ℕ → ℤ
 decimal_at settings slot attr = cast_signed w64 (raw_of settings (record slot { attr = attr }))
 
--- a position scaled, in billionths: its value times SCALE, the fourth attribute, plus OFFSET, the third
+-- a position scaled, in billionths: its value times SCALE plus OFFSET
 abbrev pub scaled : Settings → Slot → ℤ → ℤ
-scaled settings slot value = value *ℤ decimal_at settings slot 4 +ℤ decimal_at settings slot 3
+scaled settings slot value = value *ℤ decimal_at settings slot pos_out.SCALE +ℤ decimal_at settings slot pos_out.OFFSET
 
 -- what is printed of it
 abbrev pub scaled_shown : Settings → Slot → ℤ → List ℕ

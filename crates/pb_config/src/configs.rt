@@ -183,6 +183,7 @@ impl Config {
 // The values of the first n places.
 #[tactic(auto, using(crate::proofs::KeptLemmas::no_raws, crate::proofs::KeptLemmas::more_raws))]
 fn first_raws(alloc: Global, n: usize) -> Result<Vec<u64>, OutOfMemory>
+    requires { n ≤ 14112 }
     ensures { IfOk result (λ raws. raws.items ≡ first_raws n) }
 {
     let mut raws = Vec::with_capacity(alloc, n)?;

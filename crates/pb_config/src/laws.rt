@@ -2,9 +2,9 @@ ghost use Rattle.std.specs.Prelude.{true, ◌≡◌, ◌≢◌, ℕ, List, Ok, N
 ghost use Rattle.pb_lut.specs.Functions.{WritesFunction};
 ghost use Rattle.pb_fields.specs.declared.Slot.{Slot};
 ghost use Rattle.pb_fields.specs.declared.FieldType.TheVariants as types;
-ghost use Rattle.pb_fields.specs.Slots.{IsSlot, type_at, attribute_at};
+ghost use Rattle.pb_fields.specs.Slots.{IsSlot, type_at, attribute_at, default_of};
 ghost use Rattle.pb_config.specs.Settings.{Settings, place, raw_of, text_of};
-ghost use Rattle.pb_config.specs.Defaults.{fresh, default_of, default_text};
+ghost use Rattle.pb_config.specs.Defaults.{fresh, default_text};
 ghost use Rattle.pb_config.specs.Assigning.{raw_given, target, kept_by, keeps_text, after_assignment};
 ghost use Rattle.pb_config.specs.Reached.{IsReached};
 

@@ -22,6 +22,3 @@ pub use laws::{
 };
 pub use places::field_slot;
 pub use showing::has_line;
-
-#[cfg(test)]
-mod tests;

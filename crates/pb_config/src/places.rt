@@ -3,6 +3,7 @@ ghost use Rattle.pb_fields.specs.Slots.{IsSlot, attributes_at};
 ghost use Rattle.pb_config.specs.Settings.{place, instance_place, field_slot, units_slot};
 
 use pb_fields::Slot;
+use pb_names::{ITSELF, time};
 
 /// The place of the slot among all slots.
 #[tactic(auto, using(crate::proofs::PlaceLemmas::few))]
@@ -30,7 +31,10 @@ pub fn field_slot(slot: Slot) -> Slot
     ensures field { result ≡ field_slot slot }
     ensures slot { IsSlot result }
 {
-    Slot { attr: 0, ..slot }
+    Slot {
+        attr: ITSELF,
+        ..slot
+    }
 }
 
 /// The attribute UNITS of the field of a time.
@@ -40,5 +44,8 @@ pub(crate) fn units_slot(slot: Slot) -> Slot
     ensures units { result ≡ units_slot slot }
     ensures slot { IsSlot result }
 {
-    Slot { attr: 2, ..slot }
+    Slot {
+        attr: time::UNITS,
+        ..slot
+    }
 }

@@ -4,12 +4,7 @@ ghost use Rattle.pb_config.specs.Showing.{is_scaled, decimal_at, scaled};
 
 use crate::configs::Config;
 use pb_fields::Slot;
-
-/// The place of OFFSET among the attributes of a position.
-const OFFSET: u8 = 3;
-
-/// The place of SCALE among the attributes of a position.
-const SCALE: u8 = 4;
+use pb_names::pos_out::{OFFSET, SCALE};
 
 /// The value of a position times SCALE plus OFFSET, in billionths.
 pub(crate) fn scaled(config: &Config, slot: Slot, value: i32) -> i128
@@ -44,8 +39,8 @@ fn times(value: i32, scale: i64) -> i128
 fn decimal_at(config: &Config, slot: Slot, attr: u8) -> i64
     requires slot { IsSlot slot }
     requires scaled { is_scaled slot ≡ true }
-    requires third { 3 ≤ attr }
-    requires fourth { attr ≤ 4 }
+    requires from { OFFSET ≤ attr }
+    requires to { attr ≤ SCALE }
     ensures decimal { result ≡ decimal_at config.now slot attr }
     ensures range { unsigned_abs result < 10 ^ 18 }
 {

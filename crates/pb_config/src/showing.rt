@@ -10,6 +10,7 @@ use crate::places::field_slot;
 use pb_fields::{
     Attribute, FieldKind, FieldType, Slot, attribute, entry, field_type, kind, type_name,
 };
+use pb_names::bit_bus;
 use pb_words::{Refusal, put_front, write_hex32, write_u64};
 
 /// Whether the slot's value is one line that comes from the settings or the catalogue, or can't be
@@ -128,7 +129,7 @@ fn show_attribute(config: &Config, slot: Slot, attribute: Attribute, out: &mut [
         Attribute::CaptureWord => put_front(word_name(bit_entry(slot) / 32), out),
         Attribute::BitOffset => write_u64(u64::from(bit_entry(slot) % 32), out),
         Attribute::Units => config.put_text(slot, out),
-        Attribute::MaxDelay => write_u64(31, out),
+        Attribute::MaxDelay => write_u64(u64::from(bit_bus::MAX_DELAY), out),
         Attribute::MaxLength => write_u64(16_384, out),
         Attribute::RowWords => write_u64(4, out),
         Attribute::TimeUnits
