@@ -4,3 +4,5 @@ pub mod FieldLemmas
 pub mod LevelLemmas
 pub mod Mapped
 pub mod StimulusLemmas
+pub mod NamingLemmas
+pub mod LutLemmas

@@ -1,6 +1,8 @@
 pub mod Stimulus
 pub mod Tick
 pub mod Core
+pub mod Naming
+pub mod There
 pub mod Queries
 pub mod Assignments
 pub mod Answer

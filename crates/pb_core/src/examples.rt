@@ -5,7 +5,6 @@ ghost use Rattle.pb_core.specs.Answer.{answer, after};
 ghost use Rattle.pb_core.specs.Examples.{line, told, inverter, toggle};
 
 /// A LUT that inverts an input sees its edge one tick later.
-#[tactic(auto, unfolding(pb_grammar::specs::Grammar::command_of, pb_grammar::specs::Grammar::said_in, pb_grammar::specs::Grammar::is_target, pb_grammar::specs::Grammar::names_in, pb_fields::specs::Catalogue::catalogue, pb_fields::specs::Entries::bit_entries, pb_fields::specs::Labels::bit_names, pb_fields::specs::Spelled::spelled, pb_lut::specs::Computed::function_of, pb_config::specs::Assigning::raw_given, crate::specs::Queries::query_reply, crate::specs::Assignments::assignment))]
 pub fn input_is_seen_one_tick_later()
     ensures output_at_0 { told inverter 0 (codes "LUT1.OUT?\n") ≡ answers.Reply (codes "OK =0\n") }
     ensures output_at_1 { told inverter 1 (codes "LUT1.OUT?\n") ≡ answers.Reply (codes "OK =1\n") }
@@ -16,14 +15,12 @@ pub fn input_is_seen_one_tick_later()
 {}
 
 /// A LUT that inverts its own output changes with each tick.
-#[tactic(auto, unfolding(pb_grammar::specs::Grammar::command_of, pb_grammar::specs::Grammar::said_in, pb_grammar::specs::Grammar::is_target, pb_grammar::specs::Grammar::names_in, pb_fields::specs::Catalogue::catalogue, pb_fields::specs::Entries::bit_entries, pb_fields::specs::Labels::bit_names, pb_fields::specs::Spelled::spelled, pb_lut::specs::Computed::function_of, pb_config::specs::Assigning::raw_given, crate::specs::Queries::query_reply, crate::specs::Assignments::assignment))]
 pub fn lut_of_itself_toggles()
     ensures at_9 { told toggle 9 (codes "LUT1.OUT?\n") ≡ answers.Reply (codes "OK =1\n") }
     ensures at_10 { told toggle 10 (codes "LUT1.OUT?\n") ≡ answers.Reply (codes "OK =0\n") }
 {}
 
 /// A refused line leaves the core as it was.
-#[tactic(auto, unfolding(pb_grammar::specs::Grammar::command_of, pb_grammar::specs::Grammar::said_in, pb_grammar::specs::Grammar::is_target, pb_grammar::specs::Grammar::names_in, pb_fields::specs::Catalogue::catalogue, pb_fields::specs::Entries::bit_entries, pb_fields::specs::Labels::bit_names, pb_fields::specs::Spelled::spelled, pb_lut::specs::Computed::function_of, pb_lut::specs::Computed::expression_of, pb_lut::specs::Computed::tree_at, pb_config::specs::Assigning::raw_given, crate::specs::Queries::query_reply, crate::specs::Assignments::assignment))]
 pub fn refused_lines_change_nothing()
     ensures label { answer inverter (line (codes "LUT1.INPA=TTLIN7.VAL\n")) ≡ answers.Error refusals.UnknownLabel }
     ensures label_kept { after inverter (line (codes "LUT1.INPA=TTLIN7.VAL\n")) ≡ inverter }

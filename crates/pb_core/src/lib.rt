@@ -6,19 +6,16 @@
 
 mod assignments;
 mod boxes;
-#[cfg(test)]
-mod command_tests;
 mod cores;
 mod events;
 mod examples;
 mod laws;
+mod meanings;
 mod placing;
 mod queries;
 mod steps;
 mod stimuli;
 mod targets;
-#[cfg(test)]
-mod tests;
 mod values;
 
 pub use cores::Core;
@@ -26,5 +23,8 @@ pub use events::{Answer, Event};
 pub use examples::{
     input_is_seen_one_tick_later, lut_of_itself_toggles, refused_lines_change_nothing,
 };
-pub use laws::{only_done_lines_change_the_core, refusals_come_in_order};
+pub use laws::{
+    luts_follow_their_expressions, only_done_lines_change_the_core, refusals_come_in_order,
+    unknown_star_targets_are_no_fields,
+};
 pub use stimuli::{Row, Stimulus};

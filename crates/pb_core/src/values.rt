@@ -1,27 +1,22 @@
-ghost use Rattle.std.specs.Prelude.{◌≡◌, None, Some, IfOk, OnErr, true};
+ghost use Rattle.std.specs.Prelude.{◌≡◌, ◌≤◌, None, Some, IfOk, OnErr, true};
 ghost use Rattle.pb_fields.specs.Slots.{IsSlot, type_at, attribute_at};
 ghost use Rattle.pb_config.specs.Settings.{field_slot};
 ghost use Rattle.pb_config.specs.Showing.{is_line, scaled_shown};
-ghost use Rattle.std.specs.Fmt.{signed_decimal};
+ghost use Rattle.pb_fields.specs.Values.{IsRaw, IsShownKind, shown};
 ghost use Rattle.pb_replies.specs.Replies.{value_reply};
-ghost use Rattle.pb_core.specs.Queries.{slot_reply, is_reported, entry_at, level_text, position_of};
+ghost use Rattle.pb_core.specs.Queries.{slot_reply, is_reported, entry_at, level_raw, position_raw, position_of};
 ghost use Rattle.pb_core.specs.Answer.{replied, IsReply};
 
 use crate::cores::Core;
 use crate::events::Answer;
 use pb_config::field_slot;
-use pb_fields::{Attribute, FieldType, Slot, attribute, entry, field_type, kind, show};
+use pb_fields::{Attribute, FieldKind, FieldType, Slot, attribute, entry, field_type, kind, show};
+use pb_names::{pcap, position_bus};
 use pb_replies::{empty_reply, labels_reply, row_reply, value_reply, word_reply};
-use pb_words::{OutOfMemory, write_i64};
+use pb_words::OutOfMemory;
 
 /// The most bytes of a value that is one line.
 const ROOM: usize = 128;
-
-/// Entries of positions are counted from here.
-const FIRST_POSITION: u8 = 128;
-
-/// The place of BITS0 among the fields of PCAP. BITS1 to BITS3 follow it.
-const FIRST_WORD: u8 = 8;
 
 /// The answer to the query of a field or an attribute.
 pub(crate) fn slot_answer(core: &Core, slot: Slot) -> Result<Answer, OutOfMemory>
@@ -62,7 +57,7 @@ fn attribute_answer(core: &Core, slot: Slot, attribute: Attribute) -> Result<Ans
     match attribute {
         Attribute::Labels => Ok(Answer::Reply(labels_reply(core.alloc(), field_slot(slot))?)),
         Attribute::Scaled => scaled_answer(core, slot),
-        Attribute::Bits => Ok(Answer::Reply(word_reply(core.alloc(), slot.field - FIRST_WORD)?)),
+        Attribute::Bits => Ok(Answer::Reply(word_reply(core.alloc(), slot.field - pcap::BITS0)?)),
         Attribute::Length => Ok(Answer::Reply(value_reply(core.alloc(), b"0")?)),
         Attribute::Fields => Ok(Answer::Reply(row_reply(core.alloc())?)),
         Attribute::Base64 => Ok(Answer::Reply(empty_reply(core.alloc())?)),
@@ -85,7 +80,7 @@ fn setting_answer(core: &Core, slot: Slot) -> Result<Answer, OutOfMemory>
 }
 
 /// What a block reports, which is 0 yet.
-#[tactic(auto, using(crate::proofs::FieldLemmas::zero_within))]
+#[tactic(auto, using(crate::proofs::FieldLemmas::zero_within, crate::proofs::FieldLemmas::reported_shown))]
 fn zero_answer(core: &Core, slot: Slot) -> Result<Answer, OutOfMemory>
     requires slot { IsSlot slot }
     requires field { attribute_at slot ≡ None }
@@ -93,9 +88,7 @@ fn zero_answer(core: &Core, slot: Slot) -> Result<Answer, OutOfMemory>
     ensures ok { IfOk result (λ told. told ≡ replied (slot_reply core.now slot)) }
     ensures memory { OnErr result (IsReply (replied (slot_reply core.now slot))) }
 {
-    let mut out = [0; ROOM];
-    let len = show(kind(slot), 0, &mut out);
-    Ok(Answer::Reply(value_reply(core.alloc(), &out[..len])?))
+    raw_answer(core, kind(slot), 0)
 }
 
 /// The level of an output.
@@ -106,14 +99,14 @@ fn level_answer(core: &Core, slot: Slot) -> Result<Answer, OutOfMemory>
     ensures ok { IfOk result (λ told. told ≡ replied (slot_reply core.now slot)) }
     ensures memory { OnErr result (IsReply (replied (slot_reply core.now slot))) }
 {
-    let text = level_text(core.level(entry_at(slot)));
-    Ok(Answer::Reply(value_reply(core.alloc(), text)?))
+    raw_answer(core, FieldKind::Bit, level_raw(core.level(entry_at(slot))))
 }
 
-fn level_text(level: bool) -> &'static [u8]
-    ensures { result.now ≡ level_text level }
+fn level_raw(level: bool) -> u64
+    ensures raw { result ≡ level_raw level }
+    ensures bit { result ≤ 1 }
 {
-    if level { b"1" } else { b"0" }
+    u64::from(level)
 }
 
 /// The value of a position.
@@ -124,14 +117,24 @@ fn position_answer(core: &Core, slot: Slot) -> Result<Answer, OutOfMemory>
     ensures ok { IfOk result (λ told. told ≡ replied (slot_reply core.now slot)) }
     ensures memory { OnErr result (IsReply (replied (slot_reply core.now slot))) }
 {
-    number_answer(core, position(core, slot))
+    raw_answer(core, FieldKind::Int, position_raw(position(core, slot)))
 }
 
-fn number_answer(core: &Core, value: i32) -> Result<Answer, OutOfMemory>
-    ensures { IfOk result (λ told. told ≡ Answer.Reply (value_reply (signed_decimal value))) }
+fn position_raw(value: i32) -> u64
+    ensures raw { result ≡ position_raw value }
+    ensures int { IsRaw FieldKind.Int result }
+{
+    i64::from(value).cast_unsigned()
+}
+
+/// A raw value of the kind.
+fn raw_answer(core: &Core, kind: FieldKind, raw: u64) -> Result<Answer, OutOfMemory>
+    requires kind { IsShownKind kind }
+    requires range { IsRaw kind raw }
+    ensures { IfOk result (λ told. told ≡ Answer.Reply (value_reply (shown kind raw))) }
 {
     let mut out = [0; ROOM];
-    let len = write_i64(i64::from(value), &mut out);
+    let len = show(kind, raw, &mut out);
     Ok(Answer::Reply(value_reply(core.alloc(), &out[..len])?))
 }
 
@@ -161,7 +164,7 @@ fn position(core: &Core, slot: Slot) -> i32
     requires { IsSlot slot }
     ensures { result ≡ position_of core.now slot }
 {
-    core.position(entry_at(slot).saturating_sub(FIRST_POSITION))
+    core.position(entry_at(slot).saturating_sub(position_bus::FIRST))
 }
 
 /// The entry that the slot's field drives.
@@ -169,5 +172,5 @@ fn entry_at(slot: Slot) -> u8
     requires { IsSlot slot }
     ensures { result ≡ entry_at slot }
 {
-    entry(field_slot(slot)).unwrap_or(FIRST_POSITION)
+    entry(field_slot(slot)).unwrap_or(position_bus::FIRST)
 }

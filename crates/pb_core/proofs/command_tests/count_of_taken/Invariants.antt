@@ -1,6 +1,0 @@
-use Rattle.std.proofs.Common.{IfSome}
-use Rattle.pb_fields.specs.Slots.{IsSlot}
-use Rattle.pb_core.proofs.command_tests.count_of_taken.Given as goal
-
-abbrev pub invariant-loop : goal.invariant-loop
-invariant-loop g l = IfSome l.next (λ slot. IsSlot slot)

@@ -1,0 +1,19 @@
+use Rattle.std.proofs.Common.{refl}
+use Rattle.std.specs.Fmt.{digits}
+use Rattle.pb_grammar.specs.Grammar.{command_of, said_in, is_target, names_in}
+use Rattle.pb_fields.specs.Catalogue.{catalogue}
+use Rattle.pb_fields.specs.Entries.{bit_entries}
+use Rattle.pb_fields.specs.Labels.{bit_names}
+use Rattle.pb_fields.specs.Spelled.{spelled}
+use Rattle.pb_lut.specs.Computed.{function_of}
+use Rattle.pb_config.specs.Assigning.{raw_given}
+use Rattle.pb_core.specs.Naming.{named_by}
+use Rattle.pb_core.proofs.examples.lut_of_itself_toggles.Goals as goal
+
+pub returns : goal.returns
+unfolding command_of said_in is_target names_in catalogue bit_entries bit_names spelled function_of raw_given named_by digits
+returns c =
+    record {
+      at_9 = refl;
+      at_10 = refl;
+    }
