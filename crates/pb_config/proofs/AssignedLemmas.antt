@@ -3,7 +3,8 @@ use Rattle.std.proofs.Common.{◌≡◌, ◌≢◌, ℕ, ◌-◌, ◌<◌, ◌�
 use Rattle.std.proofs.lemmas.Bool.{eqb-true, cases_eq}
 use Rattle.std.proofs.lemmas.List.{length-set, get_or-set_same, get_or-set_other}
 use Rattle.pb_words.specs.declared.Refusal.{Refusal}
-use Rattle.pb_lut.specs.Functions.{WritesFunction, without_spaces}
+use Rattle.pb_lut.specs.Functions.{WritesFunction}
+use Rattle.pb_words.specs.Cuts.{without_spaces}
 use Rattle.pb_lut.specs.Computed.{expression_of, tree_at, function_of}
 use Rattle.pb_lut.proofs.ComputedLemmas.{function_written}
 use Rattle.pb_names.specs.declared.lut.TheConstants as lut

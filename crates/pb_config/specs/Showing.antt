@@ -1,7 +1,6 @@
 -- What is printed of a slot that has its value from the settings or from the catalogue.
 use Rattle.std.specs.Prelude.{ℕ, ◌/◌, ◌%◌, ◌==◌, Bool, true, false, List, ℤ, ◌+ℤ◌, ◌*ℤ◌, decimal, codes, Option, Some, None, if◌then◌else◌}
 use Rattle.std.specs.Int.{w64, cast_signed}
-use Rattle.std.specs.Option.{unwrap_or}
 use Rattle.pb_words.specs.Decimals.{canonical}
 use Rattle.pb_words.specs.Hex.{hex_text}
 use Rattle.pb_names.specs.declared.bit_bus.TheConstants as bit_bus
@@ -13,7 +12,7 @@ use Rattle.pb_fields.specs.declared.Attribute.{Attribute}
 use Rattle.pb_fields.specs.declared.Attribute.TheVariants as attributes
 use Rattle.pb_fields.specs.Types.{limit_of, type_text}
 use Rattle.pb_fields.specs.Slots.{type_at, attribute_at}
-use Rattle.pb_fields.specs.Entries.{entry_of}
+use Rattle.pb_fields.specs.Entries.{output_entry}
 use Rattle.pb_fields.specs.Values.{shown}
 use Rattle.pb_config.specs.Settings.{Settings, raw_of, text_of, field_slot, kind_now}
 
@@ -23,10 +22,6 @@ word_name word =
     if word == 0 then codes "PCAP.BITS0" else
     (if word == 1 then codes "PCAP.BITS1" else
     (if word == 2 then codes "PCAP.BITS2" else codes "PCAP.BITS3"))
-
--- the bit entry of the field
-abbrev pub bit_entry : Slot → ℕ
-bit_entry slot = unwrap_or (entry_of (field_slot slot)) 0
 
 -- a field whose value is kept, or can't be asked for
 abbrev pub is_line_of_field : FieldType → Bool
@@ -82,8 +77,8 @@ attribute_shown settings slot t attributes.Info = type_text t
 attribute_shown settings slot t attributes.Max = decimal (limit_of t)
 attribute_shown settings slot t attributes.LutRaw = hex_text (raw_of settings (field_slot slot))
 attribute_shown settings slot t attributes.TimeRaw = decimal (raw_of settings (field_slot slot))
-attribute_shown settings slot t attributes.CaptureWord = word_name (bit_entry slot / 32)
-attribute_shown settings slot t attributes.BitOffset = decimal (bit_entry slot % 32)
+attribute_shown settings slot t attributes.CaptureWord = word_name (output_entry slot / bit_bus.WORD)
+attribute_shown settings slot t attributes.BitOffset = decimal (output_entry slot % bit_bus.WORD)
 attribute_shown settings slot t attributes.Units = text_of settings slot
 attribute_shown settings slot t attributes.MaxDelay = decimal bit_bus.MAX_DELAY
 attribute_shown settings slot t attributes.MaxLength = decimal 16384

@@ -2,13 +2,13 @@ ghost use Rattle.std.specs.Prelude.{true, false, ◌≡◌, Some, ◌≤◌, ◌
 ghost use Rattle.pb_fields.specs.Slots.{IsSlot, type_at, attribute_at};
 ghost use Rattle.pb_fields.specs.Types.{limit_of};
 ghost use Rattle.pb_config.specs.Kept.{is_kept};
-ghost use Rattle.pb_config.specs.Showing.{is_line, is_readable, is_readable_field, is_line_of_field, is_line_of_attribute, raw_shown, field_shown, attribute_shown, bit_entry, shown_at};
+ghost use Rattle.pb_config.specs.Showing.{is_line, is_readable, is_readable_field, is_line_of_field, is_line_of_attribute, raw_shown, field_shown, attribute_shown, shown_at};
 
 use crate::configs::Config;
 use crate::infos::word_name;
 use crate::places::field_slot;
 use pb_fields::{
-    Attribute, FieldKind, FieldType, Slot, attribute, entry, field_type, kind, type_name,
+    Attribute, FieldKind, FieldType, Slot, attribute, field_type, kind, output_entry, type_name,
 };
 use pb_names::bit_bus;
 use pb_words::{Refusal, put_front, write_hex32, write_u64};
@@ -126,8 +126,8 @@ fn show_attribute(config: &Config, slot: Slot, attribute: Attribute, out: &mut [
         Attribute::Max => show_limit(slot, out),
         Attribute::LutRaw => show_function(config, slot, out),
         Attribute::TimeRaw => write_u64(config.raw(field_slot(slot)), out),
-        Attribute::CaptureWord => put_front(word_name(bit_entry(slot) / 32), out),
-        Attribute::BitOffset => write_u64(u64::from(bit_entry(slot) % 32), out),
+        Attribute::CaptureWord => put_front(word_name(output_entry(slot) / bit_bus::WORD), out),
+        Attribute::BitOffset => write_u64(u64::from(output_entry(slot) % bit_bus::WORD), out),
         Attribute::Units => config.put_text(slot, out),
         Attribute::MaxDelay => write_u64(u64::from(bit_bus::MAX_DELAY), out),
         Attribute::MaxLength => write_u64(16_384, out),
@@ -171,12 +171,4 @@ fn show_function(config: &Config, slot: Slot, out: &mut [u8]) -> usize
     ensures written { out.new ≡ attribute_shown config.now slot (type_at slot) Attribute.LutRaw ++ drop (length (attribute_shown config.now slot (type_at slot) Attribute.LutRaw)) out.old }
 {
     write_hex32(config.raw(field_slot(slot)) as u32, out)
-}
-
-// The bit entry of the field.
-fn bit_entry(slot: Slot) -> u8
-    requires { IsSlot slot }
-    ensures { result ≡ bit_entry slot }
-{
-    entry(field_slot(slot)).unwrap_or(0)
 }

@@ -18,7 +18,7 @@ use Rattle.pb_fields.specs.Values.{IsRaw, IsShownKind}
 use Rattle.pb_fields.proofs.RowLemmas.{and_left, and_right, all_at, all_within}
 use Rattle.pb_config.proofs.KindLemmas.{which, unlike}
 use Rattle.pb_config.proofs.TextLemmas.{all_of, at_each}
-use Rattle.pb_core.specs.Queries.{is_reported}
+use Rattle.pb_core.specs.Helpers.{is_reported}
 
 -- BITS is an attribute of the words of the bit bus alone, which are fields of PCAP one after the other
 

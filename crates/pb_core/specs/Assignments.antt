@@ -2,7 +2,7 @@
 use Rattle.std.specs.Prelude.{ℕ, Bool, false, List, Result, Err}
 use Rattle.pb_words.specs.declared.Refusal.{Refusal}
 use Rattle.pb_words.specs.declared.Refusal.TheVariants as refusals
-use Rattle.pb_words.specs.Steps.{result_then, result_map}
+use Rattle.pb_words.specs.Refusing.{result_then, result_map}
 use Rattle.pb_fields.specs.declared.Slot.{Slot}
 use Rattle.pb_config.specs.Assigning.{raw_given, is_assignable, assigned, change_of}
 use Rattle.pb_core.specs.Tick.{changed}

@@ -1,3 +1,4 @@
+-- Words of private helpers: no public clause cites them.
 -- What the core keeps beside the rows: how far it has come in them, and the values of the targets.
 use Rattle.std.specs.Prelude.{◌≡◌, ℕ, ℤ, ◌<◌, ◌≤◌, ◌^◌, List, map, take, drop, length, slice_set, nat_lt, if◌then◌else◌}
 use Rattle.std.specs.List.{AllByRecursion, range_with_len}

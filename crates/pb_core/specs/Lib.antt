@@ -2,7 +2,7 @@ pub mod Stimulus
 pub mod Tick
 pub mod Core
 pub mod Naming
-pub mod There
+pub mod Helpers
 pub mod Queries
 pub mod Assignments
 pub mod Answer

@@ -4,7 +4,7 @@ use Rattle.std.specs.Cmp.Lexicographic.{pointwise}
 use Rattle.std.specs.Option.{option_map_or}
 use Rattle.pb_words.specs.declared.Refusal.{Refusal}
 use Rattle.pb_words.specs.declared.Refusal.TheVariants as refusals
-use Rattle.pb_words.specs.Steps.{result_map}
+use Rattle.pb_words.specs.Refusing.{result_map}
 use Rattle.pb_fields.specs.Finding.{found_of, block_found, is_point}
 use Rattle.pb_grammar.specs.Grammar.{after_front, before_end}
 use Rattle.pb_core.specs.declared.targets.Named.{Named}

@@ -1,21 +1,19 @@
 -- What a query is answered.
 use Rattle.std.specs.Prelude.{ℕ, ℤ, ◌-◌, Bool, true, false, List, [], Option, Some, None, Result, Ok, Err, codes, if◌then◌else◌}
-use Rattle.std.specs.Int.{w64, cast_unsigned}
 use Rattle.std.specs.Option.{option_map_or, unwrap_or}
 use Rattle.pb_words.specs.declared.Refusal.{Refusal}
 use Rattle.pb_words.specs.declared.Refusal.TheVariants as refusals
-use Rattle.pb_words.specs.Steps.{result_then}
+use Rattle.pb_words.specs.Refusing.{result_then}
 use Rattle.pb_names.specs.declared.pcap.TheConstants as pcap
 use Rattle.pb_names.specs.declared.position_bus.TheConstants as position_bus
 use Rattle.pb_fields.specs.declared.Slot.{Slot}
 use Rattle.pb_fields.specs.declared.FieldType.{FieldType}
 use Rattle.pb_fields.specs.declared.FieldType.TheVariants as types
-use Rattle.pb_fields.specs.declared.FieldKind.TheVariants as kinds
 use Rattle.pb_fields.specs.declared.Attribute.{Attribute}
 use Rattle.pb_fields.specs.declared.Attribute.TheVariants as attributes
 use Rattle.pb_fields.specs.Slots.{type_at, attribute_at, kind_of}
-use Rattle.pb_fields.specs.Entries.{entry_of}
-use Rattle.pb_fields.specs.Values.{shown}
+use Rattle.pb_fields.specs.Entries.{output_entry}
+use Rattle.pb_fields.specs.Values.{shown, bit_raw, int_raw}
 use Rattle.pb_config.specs.Settings.{field_slot}
 use Rattle.pb_config.specs.Showing.{is_readable, shown_at, scaled_shown}
 use Rattle.pb_replies.specs.Replies.{value_reply, list_reply}
@@ -28,37 +26,20 @@ use Rattle.pb_core.specs.Naming.{named_by}
 
 -- Values.
 
--- the entry that a slot's field drives
-abbrev pub entry_at : Slot → ℕ
-entry_at slot = unwrap_or (entry_of (field_slot slot)) position_bus.FIRST
-
 -- the level of an output
 abbrev pub level_of : CoreState → Slot → Bool
-level_of core slot = selected (bus_at core.rows core.box) (entry_at slot)
+level_of core slot = selected (bus_at core.rows core.box) (output_entry slot)
 
 -- the value of a position
 abbrev pub position_of : CoreState → Slot → ℤ
-position_of core slot = position_at core.rows core.box (entry_at slot - position_bus.FIRST)
-
--- the raw value of a level, and that of a position
-abbrev pub level_raw : Bool → ℕ
-level_raw level = if level then 1 else 0
-
-abbrev pub position_raw : ℤ → ℕ
-position_raw value = cast_unsigned w64 value
-
--- a block reports the field
-abbrev pub is_reported : FieldType → Bool
-is_reported types.ReadUint = true
-is_reported (types.ReadEnum labels) = true
-is_reported _ = false
+position_of core slot = position_at core.rows core.box (output_entry slot - position_bus.FIRST)
 
 -- What a field that can be read is answered. A field that a block reports is 0, and a table is empty.
 abbrev pub field_reply : CoreState → Slot → FieldType → List ℕ
 field_reply core slot types.ReadUint = value_reply (shown (kind_of slot) 0)
 field_reply core slot (types.ReadEnum labels) = value_reply (shown (kind_of slot) 0)
-field_reply core slot types.BitOut = value_reply (shown kinds.Bit (level_raw (level_of core slot)))
-field_reply core slot types.PosOut = value_reply (shown kinds.Int (position_raw (position_of core slot)))
+field_reply core slot types.BitOut = value_reply (shown (kind_of slot) (bit_raw (level_of core slot)))
+field_reply core slot types.PosOut = value_reply (shown (kind_of slot) (int_raw (position_of core slot)))
 field_reply core slot types.Table = list_reply []
 field_reply core slot _ = value_reply (shown_at core.settings slot)
 

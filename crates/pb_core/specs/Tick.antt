@@ -3,6 +3,11 @@ use Rattle.std.specs.Prelude.{ℕ, ℤ, pos, zero, suc, ◌+◌, ◌-◌, ◌*�
 use Rattle.std.specs.List.{range_with_len}
 use Rattle.std.specs.Ordering.{int_eq}
 use Rattle.std.specs.Int.{bit_at}
+use Rattle.pb_names.specs.declared.TheConstants.{ITSELF}
+use Rattle.pb_names.specs.declared.ttlin.TheConstants as ttlin
+use Rattle.pb_names.specs.declared.inenc.TheConstants as inenc
+use Rattle.pb_names.specs.declared.lut.TheConstants as lut
+use Rattle.pb_names.specs.declared.bit_bus.TheConstants as bit_bus
 use Rattle.pb_fields.specs.declared.Slot.{Slot}
 use Rattle.pb_model.specs.declared.Change.{Change}
 use Rattle.pb_model.specs.declared.Change.TheVariants as changes
@@ -17,19 +22,19 @@ is_high value = not (int_eq value (pos 0))
 
 -- the TTL inputs at a tick
 abbrev pub inputs_at : List Row → ℕ → List Bool
-inputs_at rows tick = map (λ i. is_high (value_at rows i tick)) (range_with_len 0 6)
+inputs_at rows tick = map (λ i. is_high (value_at rows i tick)) (range_with_len 0 ttlin.INSTANCES)
 
 -- the bit bus at the box's tick, by entry: the TTL inputs, then the outputs of the LUTs; all others are low
 abbrev pub bus_at : List Row → BoxState → List Bool
 bus_at rows box = inputs_at rows box.tick ++ box.outputs
 
--- the position bus at the box's tick: an entry from 0 to 3 is an encoder, and all others are 0
+-- the position bus at the box's tick: the encoders come first, and all others are 0
 abbrev pub position_at : List Row → BoxState → ℕ → ℤ
-position_at rows box entry = if nat_lt entry 4 then value_at rows (6 + entry) box.tick else pos 0
+position_at rows box entry = if nat_lt entry inenc.INSTANCES then value_at rows (ttlin.INSTANCES + entry) box.tick else pos 0
 
--- what a mux with this selection sees: ONE is 129, ZERO and unused entries are low
+-- what a mux with this selection sees: ZERO and unused entries are low
 abbrev pub selected : List Bool → ℕ → Bool
-selected bus entry = if entry == 129 then true else slice_index_or bus entry false
+selected bus entry = if entry == bit_bus.ONE then true else slice_index_or bus entry false
 
 -- the number whose binary digits are these bits, after n: of five bits it is 16A+8B+4C+2D+E
 abbrev pub number_after : ℕ → List Bool → ℕ
@@ -56,23 +61,23 @@ ticks (suc n) rows box = ticks n rows (tick rows box)
 
 -- a LUT as it is when the box opens: inputs at ZERO, function 0
 abbrev pub opening_lut : LutSettings
-opening_lut = record { inputs = replicate 5 128; function = 0 }
+opening_lut = record { inputs = replicate 5 bit_bus.ZERO; function = 0 }
 
 -- the box as it opens at tick 0
 abbrev pub opening_box : BoxState
-opening_box = record { tick = 0; luts = replicate 8 opening_lut; outputs = replicate 8 false }
+opening_box = record { tick = 0; luts = replicate lut.INSTANCES opening_lut; outputs = replicate lut.INSTANCES false }
 
 -- Changes.
 
 -- the element at this place changed, and no other
-abbrev pub changed_at : {X : Type 0} → (X → X) → ℕ → List X → List X
-changed_at change place [] = []
-changed_at change zero (x ∷ xs) = change x ∷ xs
-changed_at change (suc place) (x ∷ xs) = x ∷ changed_at change place xs
+abbrev pub with_change : {X : Type 0} → (X → X) → ℕ → List X → List X
+with_change change place [] = []
+with_change change zero (x ∷ xs) = change x ∷ xs
+with_change change (suc place) (x ∷ xs) = x ∷ with_change change place xs
 
 -- LUT j changed, counted from 1
 abbrev pub with_lut : BoxState → ℕ → (LutSettings → LutSettings) → BoxState
-with_lut box j change = record { tick = box.tick; luts = changed_at change (j - 1) box.luts; outputs = box.outputs }
+with_lut box j change = record { tick = box.tick; luts = with_change change (j - 1) box.luts; outputs = box.outputs }
 
 -- input x of the LUT selects this entry
 abbrev pub with_selection : ℕ → ℕ → LutSettings → LutSettings
@@ -82,16 +87,16 @@ with_selection x entry lut = record { inputs = slice_set lut.inputs x entry; fun
 abbrev pub with_function : ℕ → LutSettings → LutSettings
 with_function function lut = record { inputs = lut.inputs; function = function }
 
--- the LUT with this raw value in a field: 0 to 4 are the inputs A to E, and 5 is the function
+-- the LUT with this raw value in a field: the inputs A to E come before the function
 abbrev pub with_field : ℕ → ℕ → LutSettings → LutSettings
-with_field field raw lut =
-    if nat_lt field 5 then with_selection field raw lut
-    else (if field == 5 then with_function raw lut else lut)
+with_field field raw settings =
+    if nat_lt field lut.FUNC then with_selection field raw settings
+    else (if field == lut.FUNC then with_function raw settings else settings)
 
--- the box with a setting changed: LUT is block 3, and the other blocks are at rest
+-- the box with a setting changed: the blocks other than LUT are at rest
 abbrev pub with_setting : BoxState → Slot → ℕ → BoxState
 with_setting box slot raw =
-    if slot.block == 3 && slot.attr == 0 then with_lut box slot.instance (with_field slot.field raw) else box
+    if slot.block == lut.BLOCK && slot.attr == ITSELF then with_lut box slot.instance (with_field slot.field raw) else box
 
 -- the box after a change, if there is one
 abbrev pub changed : BoxState → Option Change → BoxState

@@ -1,14 +1,16 @@
 ghost use Rattle.std.specs.Prelude.{◌≡◌, ◌<◌, ◌≤◌, ◌^◌, Some};
+ghost use Rattle.pb_names.specs.declared.lut.TheConstants.{FUNC};
 ghost use Rattle.pb_model.specs.Changes.{IsChange, IsSet};
 ghost use Rattle.pb_core.specs.Tick.{changed, with_setting, with_lut, with_field};
 
 use pb_fields::Slot;
 use pb_model::Change;
+use pb_names::{ITSELF, lut};
 
 /// What a LUT is set to.
 #[derive(Clone, Copy, Debug, PartialEq, Eq)]
 pub struct LutSettings {
-    /// The bit entry that each of inputs A to E selects: 0 to 127 on the bus, 128 for ZERO, 129 for ONE.
+    /// The bit entry that each of inputs A to E selects: an entry of the bus, ZERO or ONE.
     pub inputs: [u8; 5],
     /// Bit 16A+8B+4C+2D+E is the output for these inputs.
     pub function: u32,
@@ -24,9 +26,6 @@ pub struct BoxState {
     /// The output registers of LUT 1 to 8.
     pub outputs: [bool; 8],
 }
-
-/// The place of LUT among the blocks of the catalogue.
-const LUT: u8 = 3;
 
 impl BoxState {
     /// Takes a change.
@@ -45,7 +44,7 @@ impl BoxState {
         requires { IsSet slot raw }
         ensures { self.new ≡ with_setting self.old slot raw }
     {
-        if slot.block == LUT && slot.attr == 0 {
+        if slot.block == lut::BLOCK && slot.attr == ITSELF {
             self.set_lut(slot.instance, slot.field, raw);
         }
     }
@@ -53,8 +52,8 @@ impl BoxState {
     /// A field of LUT j, counted from 1, takes this raw value.
     fn set_lut(&mut self, j: u8, field: u8, raw: u64)
         requires lut { (1 ≤ j) × (j ≤ 8) }
-        requires selection { field < 5 → raw < 2 ^ 8 }
-        requires function { field ≡ 5 → raw < 2 ^ 32 }
+        requires selection { field < FUNC → raw < 2 ^ 8 }
+        requires function { field ≡ FUNC → raw < 2 ^ 32 }
         ensures { self.new ≡ with_lut self.old j (with_field field raw) }
     {
         self.luts[j as usize - 1].set(field, raw);
@@ -62,15 +61,15 @@ impl BoxState {
 }
 
 impl LutSettings {
-    /// The field takes this raw value: 0 to 4 are the inputs A to E, and 5 is the function.
+    /// The field takes this raw value, if it is an input or the function.
     fn set(&mut self, field: u8, raw: u64)
-        requires selection { field < 5 → raw < 2 ^ 8 }
-        requires function { field ≡ 5 → raw < 2 ^ 32 }
+        requires selection { field < FUNC → raw < 2 ^ 8 }
+        requires function { field ≡ FUNC → raw < 2 ^ 32 }
         ensures { self.new ≡ with_field field raw self.old }
     {
         match field {
-            0..=4 => self.inputs[field as usize] = raw as u8,
-            5 => self.function = raw as u32,
+            lut::INPA..=lut::INPE => self.inputs[field as usize] = raw as u8,
+            lut::FUNC => self.function = raw as u32,
             _ => {}
         }
     }

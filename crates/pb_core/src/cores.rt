@@ -11,6 +11,7 @@ use crate::stimuli::Stimulus;
 use pb_config::Config;
 use pb_fields::{Catalog, Slot};
 use pb_grammar::{Command, parse};
+use pb_names::{inenc, ttlin};
 use pb_replies::value_reply;
 use pb_words::{OutOfMemory, Steps};
 use std::alloc::Global;
@@ -173,8 +174,8 @@ impl Core {
     pub(crate) fn position(&self, entry: u8) -> i32
         ensures { result ≡ position_at self.now.rows self.now.box entry }
     {
-        if entry < 4 {
-            self.values[6 + entry as usize]
+        if entry < inenc::INSTANCES {
+            self.values[(ttlin::INSTANCES + entry) as usize]
         } else {
             0
         }

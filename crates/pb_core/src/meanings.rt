@@ -3,7 +3,7 @@ ghost use Rattle.std.specs.Option.{option_copied};
 ghost use Rattle.pb_fields.specs.Finding.{is_point};
 ghost use Rattle.pb_grammar.specs.Grammar.{after_front, before_end};
 ghost use Rattle.pb_core.specs.Naming.{has_point, labels_named, star_named, listing_named, block_named, named_by};
-ghost use Rattle.pb_core.specs.There.{IsThere};
+ghost use Rattle.pb_core.specs.Helpers.{IsThere};
 
 use crate::targets::Named;
 use pb_fields::Catalog;

@@ -2,7 +2,7 @@ ghost use Rattle.std.specs.Prelude.{◌≡◌, IfOk, OnErr};
 ghost use Rattle.pb_fields.specs.Slots.{IsSlot};
 ghost use Rattle.pb_core.specs.Queries.{query_reply, named_reply, labels_or_refused};
 ghost use Rattle.pb_core.specs.Answer.{replied, IsReply};
-ghost use Rattle.pb_core.specs.There.{IsThere};
+ghost use Rattle.pb_core.specs.Helpers.{IsThere};
 
 use crate::cores::Core;
 use crate::events::Answer;

@@ -2,6 +2,7 @@ ghost use Rattle.std.specs.Prelude.{◌≡◌, ◌+◌, ◌++◌, map, take};
 ghost use Rattle.pb_core.specs.Tick.{is_high, selected, lut_next, opening_box};
 
 use crate::boxes::{BoxState, LutSettings};
+use pb_names::bit_bus;
 
 /// The box as it opens.
 pub(crate) const fn opening() -> BoxState
@@ -10,7 +11,7 @@ pub(crate) const fn opening() -> BoxState
     BoxState {
         tick: 0,
         luts: [LutSettings {
-            inputs: [128; 5],
+            inputs: [bit_bus::ZERO; 5],
             function: 0,
         }; 8],
         outputs: [false; 8],
@@ -42,7 +43,7 @@ fn inputs(values: &[i32; 10]) -> [bool; 6]
 pub(crate) fn see(bus: &[bool; 14], entry: u8) -> bool
     ensures { result ≡ selected bus.now entry }
 {
-    if entry == 129 {
+    if entry == bit_bus::ONE {
         return true;
     }
     bus.get(entry as usize).copied().unwrap_or(false)

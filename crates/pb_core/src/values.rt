@@ -4,13 +4,16 @@ ghost use Rattle.pb_config.specs.Settings.{field_slot};
 ghost use Rattle.pb_config.specs.Showing.{is_line, scaled_shown};
 ghost use Rattle.pb_fields.specs.Values.{IsRaw, IsShownKind, shown};
 ghost use Rattle.pb_replies.specs.Replies.{value_reply};
-ghost use Rattle.pb_core.specs.Queries.{slot_reply, is_reported, entry_at, level_raw, position_raw, position_of};
+ghost use Rattle.pb_core.specs.Queries.{slot_reply, position_of};
+ghost use Rattle.pb_core.specs.Helpers.{is_reported};
 ghost use Rattle.pb_core.specs.Answer.{replied, IsReply};
 
 use crate::cores::Core;
 use crate::events::Answer;
 use pb_config::field_slot;
-use pb_fields::{Attribute, FieldKind, FieldType, Slot, attribute, entry, field_type, kind, show};
+use pb_fields::{
+    Attribute, FieldKind, FieldType, Slot, attribute, bit_raw, field_type, int_raw, kind, output_entry, show,
+};
 use pb_names::{pcap, position_bus};
 use pb_replies::{empty_reply, labels_reply, row_reply, value_reply, word_reply};
 use pb_words::OutOfMemory;
@@ -99,14 +102,7 @@ fn level_answer(core: &Core, slot: Slot) -> Result<Answer, OutOfMemory>
     ensures ok { IfOk result (λ told. told ≡ replied (slot_reply core.now slot)) }
     ensures memory { OnErr result (IsReply (replied (slot_reply core.now slot))) }
 {
-    raw_answer(core, FieldKind::Bit, level_raw(core.level(entry_at(slot))))
-}
-
-fn level_raw(level: bool) -> u64
-    ensures raw { result ≡ level_raw level }
-    ensures bit { result ≤ 1 }
-{
-    u64::from(level)
+    raw_answer(core, kind(slot), bit_raw(core.level(output_entry(slot))))
 }
 
 /// The value of a position.
@@ -117,14 +113,7 @@ fn position_answer(core: &Core, slot: Slot) -> Result<Answer, OutOfMemory>
     ensures ok { IfOk result (λ told. told ≡ replied (slot_reply core.now slot)) }
     ensures memory { OnErr result (IsReply (replied (slot_reply core.now slot))) }
 {
-    raw_answer(core, FieldKind::Int, position_raw(position(core, slot)))
-}
-
-fn position_raw(value: i32) -> u64
-    ensures raw { result ≡ position_raw value }
-    ensures int { IsRaw FieldKind.Int result }
-{
-    i64::from(value).cast_unsigned()
+    raw_answer(core, kind(slot), int_raw(position(core, slot)))
 }
 
 /// A raw value of the kind.
@@ -164,13 +153,5 @@ fn position(core: &Core, slot: Slot) -> i32
     requires { IsSlot slot }
     ensures { result ≡ position_of core.now slot }
 {
-    core.position(entry_at(slot).saturating_sub(position_bus::FIRST))
-}
-
-/// The entry that the slot's field drives.
-fn entry_at(slot: Slot) -> u8
-    requires { IsSlot slot }
-    ensures { result ≡ entry_at slot }
-{
-    entry(field_slot(slot)).unwrap_or(position_bus::FIRST)
+    core.position(output_entry(slot).saturating_sub(position_bus::FIRST))
 }

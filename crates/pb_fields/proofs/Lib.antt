@@ -15,3 +15,4 @@ pub mod EntryLaws
 pub mod TargetLemmas
 pub mod PrintedLemmas
 pub mod NamedLemmas
+pub mod MissingLemmas

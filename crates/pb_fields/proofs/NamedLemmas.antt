@@ -68,14 +68,14 @@ parts text None h = sym (append-nil (before_point text) ∙ whole_at text _ refl
 parts text (Some rest) h = join text rest h
 
 -- what the look-ups tell of the names
-block_by : (name : List ℕ) (b : ℕ) (t : Bool) → cond {A = Option ℕ} t (block_with (stem_of name)) None ≡ Some b → (b < 12) × ((block_of b).name ≡ stem_of name)
+pub block_by : (name : List ℕ) (b : ℕ) (t : Bool) → cond {A = Option ℕ} t (block_with (stem_of name)) None ≡ Some b → (b < 12) × ((block_of b).name ≡ stem_of name)
 unfolding catalogue
 block_by name b true h =
     let told = position-Some (λ (r : BlockRow). pointwise nat_eq r.name (stem_of name)) catalogue b (block [] 0 []) h in
     (told.0, same_text (block_of b).name (stem_of name) (sym told.1))
 block_by name b false h = cc
 
-field_told : (b f : ℕ) (name : List ℕ) → field_named b name ≡ Some f → (f < length (fields_of b)) × ((field_of b f).name ≡ name)
+pub field_told : (b f : ℕ) (name : List ℕ) → field_named b name ≡ Some f → (f < length (fields_of b)) × ((field_of b f).name ≡ name)
 field_told b f name h =
     let told = position-Some (λ (r : FieldRow). pointwise nat_eq r.name name) (fields_of b) f (field [] types.Table 0) h in
     (told.0, same_text (field_of b f).name name (sym told.1))
@@ -101,7 +101,7 @@ attribute_told b i f a (Some name) h =
     )
 
 -- what a number tells of the instance
-abbrev NumberForms : ℕ → ℕ → List ℕ → Type 0
+abbrev pub NumberForms : ℕ → ℕ → List ℕ → Type 0
 NumberForms count i number = ((count ≡ 1) × (number ≡ [])) ⊎ (number ≡ (48 + i) ∷ [])
 
 none_by : (count i : ℕ) (t : Bool) → eqb count 1 ≡ t → cond {A = Option ℕ} t (Some 1) None ≡ Some i → (1 ≤ i) × (i ≤ count) × NumberForms count i []
@@ -120,7 +120,7 @@ digit_by count i digit true e h =
     (omega arith, omega arith, inr (ap (λ d. d ∷ []) back))
 digit_by count i digit false e h = cc
 
-number_told : (count i : ℕ) (number : List ℕ) → instance_numbered count number ≡ Some i → (1 ≤ i) × (i ≤ count) × NumberForms count i number
+pub number_told : (count i : ℕ) (number : List ℕ) → instance_numbered count number ≡ Some i → (1 ≤ i) × (i ≤ count) × NumberForms count i number
 number_told count i [] h = none_by count i _ refl h
 number_told count i (digit ∷ []) h = digit_by count i digit _ refl h
 number_told count i (digit ∷ other ∷ more) h = cc

@@ -58,7 +58,7 @@ unfolding named_field this_field
 field_named-name slot s = some_of _ _ (agree named_field this_field fields_named slot s)
 
 -- no two attributes of a type have one name
-abbrev named_attribute : FieldType → ℕ → Option ℕ
+abbrev pub named_attribute : FieldType → ℕ → Option ℕ
 named_attribute t k =
     position (λ a. pointwise nat_eq (attribute_text a) (attribute_text (get_or (attributes_of t) k attributes.Info))) (attributes_of t)
 
@@ -80,7 +80,7 @@ attributes_named types.BitMux = refl
 attributes_named types.PosMux = refl
 attributes_named types.Table = refl
 
-attribute_place : (t : FieldType) (k : ℕ) → k < length (attributes_of t) → named_attribute t k ≡ Some k
+pub attribute_place : (t : FieldType) (k : ℕ) → k < length (attributes_of t) → named_attribute t k ≡ Some k
 attribute_place t k h =
     sym (get_or-map-range_with_len (named_attribute t) 0 (length (attributes_of t)) k k None h (omega arith))
     ∙ ap (λ l. get_or l k None) (attributes_named t)
@@ -106,7 +106,7 @@ after-end name None h = ap after_point (append-nil name) ∙ after-whole name h
 after-end name (Some a) h = after-cut name (attribute_text a) h
 
 -- the block and its number are cut apart and read
-block_named-text : (b : ℕ) (number : List ℕ) → b < 12 → list_all is_ascii_digit number ≡ true → block_named ((block_of b).name ++ number) ≡ Some b
+pub block_named-text : (b : ℕ) (number : List ℕ) → b < 12 → list_all is_ascii_digit number ≡ true → block_named ((block_of b).name ++ number) ≡ Some b
 block_named-text b number h digits =
     let name : List ℕ = (block_of b).name in
     ap (λ n. cond {A = Option ℕ} (list_all is_ascii_digit n) (block_with (stem_of (name ++ number))) None) (number-cut name number (block_letters b) digits)

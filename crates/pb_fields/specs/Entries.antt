@@ -1,7 +1,7 @@
 -- Which output drives which entry of the two buses.
 use Rattle.std.specs.Prelude.{ℕ, ◌+◌, ◌-◌, ◌==◌, ◌&&◌, Bool, true, false, List, [], ◌∷◌, length, Option, Some, None, if◌then◌else◌, nat_lt, map, filter, position, slice_get}
 use Rattle.std.specs.List.{flat_map, range_with_len}
-use Rattle.std.specs.Option.{option_map}
+use Rattle.std.specs.Option.{option_map, unwrap_or}
 use Rattle.pb_names.specs.declared.TheConstants.{ITSELF}
 use Rattle.pb_names.specs.declared.ttlin.TheConstants as ttlin
 use Rattle.pb_names.specs.declared.inenc.TheConstants as inenc
@@ -67,6 +67,10 @@ abbrev pub field_entry : ℕ → ℕ → ℕ → Option ℕ
 field_entry b i f =
     first_some (position (is_field b i f) bit_entries)
     (option_map (λ n. position_bus.FIRST + n) (position (is_field b i f) pos_entries))
+
+-- the entry that a slot's field drives, whichever of its attributes the slot is; 0 where it drives none
+abbrev pub output_entry : Slot → ℕ
+output_entry slot = unwrap_or (field_entry slot.block slot.instance slot.field) 0
 
 -- the entry that a slot drives; an attribute drives none
 abbrev pub entry_of : Slot → Option ℕ

@@ -1,3 +1,4 @@
+-- Words of private helpers: no public clause cites them.
 -- The rows of the table in the source, as rows of the catalogue.
 use Rattle.std.specs.Prelude.{map}
 use Rattle.pb_fields.specs.declared.tables.Field.{Field}

@@ -1,5 +1,5 @@
 ghost use Rattle.std.specs.Prelude.{◌≡◌, ◌<◌, ◌≤◌, ◌==◌, ◌&&◌, nat_le, find, IfSome};
-ghost use Rattle.pb_fields.specs.Entries.{entry_of, at_entry_of};
+ghost use Rattle.pb_fields.specs.Entries.{entry_of, output_entry, at_entry_of};
 ghost use Rattle.pb_fields.specs.Slots.{IsSlot};
 ghost use Rattle.pb_fields.specs.Runs.{run_with, run_around, IsAround};
 
@@ -155,6 +155,18 @@ pub fn entry(slot: Slot) -> Option<u8>
         Some(run) => Some(run.first + (slot.instance - 1) * run.outputs + (slot.field - run.field)),
         None => None,
     }
+}
+
+/// The bus entry that the slot's field drives, whichever of its attributes the slot is; 0 where it drives none.
+pub fn output_entry(slot: Slot) -> u8
+    requires { IsSlot slot }
+    ensures { result ≡ output_entry slot }
+{
+    entry(Slot {
+        attr: ITSELF,
+        ..slot
+    })
+    .unwrap_or(0)
 }
 
 /// The output that drives that bus entry; none where the entry is unused.
