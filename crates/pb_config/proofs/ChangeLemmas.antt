@@ -38,55 +38,16 @@ own_taken slot o e h = subst (λ x. is_taken_by (type_at slot) x ≡ true) (sym 
 
 taken_by : (slot : Slot) (o : Option Attribute) → IsSlot slot → attribute_at slot ≡ o → is_assignable_by (type_at slot) o ≡ true → changes_box o ≡ true → is_taken (target_by o slot) ≡ true
 taken_by slot None s e k h = own_taken slot None e k
-taken_by slot (Some attributes.Info) s e k h = absurd (cc)
-taken_by slot (Some attributes.Max) s e k h = absurd (cc)
-taken_by slot (Some attributes.Labels) s e k h = absurd (cc)
-taken_by slot (Some attributes.LutRaw) s e k h = absurd (cc)
-taken_by slot (Some attributes.TimeUnits) s e k h = absurd (cc)
 taken_by slot (Some attributes.TimeRaw) s e k h =
     let w = which slot attributes.TimeRaw s e in
     time_by_ticks (type_at slot) (slot.attr - 1) w.0 w.1
-taken_by slot (Some attributes.CaptureWord) s e k h = absurd (cc)
-taken_by slot (Some attributes.BitOffset) s e k h = absurd (cc)
-taken_by slot (Some attributes.PosCapture) s e k h = absurd (cc)
-taken_by slot (Some attributes.Offset) s e k h = absurd (cc)
-taken_by slot (Some attributes.Scale) s e k h = absurd (cc)
-taken_by slot (Some attributes.Units) s e k h = absurd (cc)
-taken_by slot (Some attributes.Scaled) s e k h = absurd (cc)
-taken_by slot (Some attributes.ExtCapture) s e k h = absurd (cc)
-taken_by slot (Some attributes.Bits) s e k h = absurd (cc)
 taken_by slot (Some attributes.Delay) s e k h = own_taken slot (Some attributes.Delay) e refl
-taken_by slot (Some attributes.MaxDelay) s e k h = absurd (cc)
-taken_by slot (Some attributes.MaxLength) s e k h = absurd (cc)
-taken_by slot (Some attributes.Length) s e k h = absurd (cc)
-taken_by slot (Some attributes.RowWords) s e k h = absurd (cc)
-taken_by slot (Some attributes.Fields) s e k h = absurd (cc)
-taken_by slot (Some attributes.Base64) s e k h = absurd (cc)
+taken_by slot o s e k h = absurd (cc)
 
 kept_where_taken : (t : FieldType) (o : Option Attribute) → is_taken_by t o ≡ true → is_kept_by t o ≡ true
 kept_where_taken t None h = h
-kept_where_taken t (Some attributes.Info) h = absurd (cc)
-kept_where_taken t (Some attributes.Max) h = absurd (cc)
-kept_where_taken t (Some attributes.Labels) h = absurd (cc)
-kept_where_taken t (Some attributes.LutRaw) h = absurd (cc)
-kept_where_taken t (Some attributes.TimeUnits) h = absurd (cc)
-kept_where_taken t (Some attributes.TimeRaw) h = absurd (cc)
-kept_where_taken t (Some attributes.CaptureWord) h = absurd (cc)
-kept_where_taken t (Some attributes.BitOffset) h = absurd (cc)
-kept_where_taken t (Some attributes.PosCapture) h = absurd (cc)
-kept_where_taken t (Some attributes.Offset) h = absurd (cc)
-kept_where_taken t (Some attributes.Scale) h = absurd (cc)
-kept_where_taken t (Some attributes.Units) h = absurd (cc)
-kept_where_taken t (Some attributes.Scaled) h = absurd (cc)
-kept_where_taken t (Some attributes.ExtCapture) h = absurd (cc)
-kept_where_taken t (Some attributes.Bits) h = absurd (cc)
 kept_where_taken t (Some attributes.Delay) h = refl
-kept_where_taken t (Some attributes.MaxDelay) h = absurd (cc)
-kept_where_taken t (Some attributes.MaxLength) h = absurd (cc)
-kept_where_taken t (Some attributes.Length) h = absurd (cc)
-kept_where_taken t (Some attributes.RowWords) h = absurd (cc)
-kept_where_taken t (Some attributes.Fields) h = absurd (cc)
-kept_where_taken t (Some attributes.Base64) h = absurd (cc)
+kept_where_taken t o h = absurd (cc)
 
 change_where : (b : Bool) (slot : Slot) (raw : ℕ) → (b ≡ true → IsSet slot raw) → IfSome (if b then Some (changes.Set slot raw) else None) (λ change. IsChange change)
 change_where true slot raw h = h refl

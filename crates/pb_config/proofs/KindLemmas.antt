@@ -57,37 +57,18 @@ shown_by (types.ParamEnum labels) None k r = tt
 shown_by types.ParamLut None k r = tt
 shown_by types.ReadUint None k r = tt
 shown_by (types.ReadEnum labels) None k r = tt
-shown_by types.WriteAction None k r = absurd (cc)
 shown_by (types.Time limit) None k r = omega arith
 shown_by types.BitOut None k r = tt
 shown_by types.PosOut None k r = tt
-shown_by types.ExtOut None k r = absurd (cc)
-shown_by types.BitWord None k r = absurd (cc)
 shown_by types.BitMux None k r = tt
 shown_by types.PosMux None k r = tt
-shown_by types.Table None k r = absurd (cc)
-shown_by t (Some attributes.Info) k r = absurd (cc)
-shown_by t (Some attributes.Max) k r = absurd (cc)
-shown_by t (Some attributes.Labels) k r = absurd (cc)
-shown_by t (Some attributes.LutRaw) k r = absurd (cc)
 shown_by t (Some attributes.TimeUnits) k r = tt
-shown_by t (Some attributes.TimeRaw) k r = absurd (cc)
-shown_by t (Some attributes.CaptureWord) k r = absurd (cc)
-shown_by t (Some attributes.BitOffset) k r = absurd (cc)
 shown_by t (Some attributes.PosCapture) k r = tt
 shown_by t (Some attributes.Offset) k r = tt
 shown_by t (Some attributes.Scale) k r = tt
-shown_by t (Some attributes.Units) k r = absurd (cc)
-shown_by t (Some attributes.Scaled) k r = absurd (cc)
 shown_by t (Some attributes.ExtCapture) k r = tt
-shown_by t (Some attributes.Bits) k r = absurd (cc)
 shown_by t (Some attributes.Delay) k r = tt
-shown_by t (Some attributes.MaxDelay) k r = absurd (cc)
-shown_by t (Some attributes.MaxLength) k r = absurd (cc)
-shown_by t (Some attributes.Length) k r = absurd (cc)
-shown_by t (Some attributes.RowWords) k r = absurd (cc)
-shown_by t (Some attributes.Fields) k r = absurd (cc)
-shown_by t (Some attributes.Base64) k r = absurd (cc)
+shown_by t o k r = absurd (cc)
 
 pub shown_kind : (slot : Slot) → is_kept slot ≡ true → is_readable slot ≡ true → IsShownKind (kind_of slot)
 shown_kind slot k r = shown_by (type_at slot) (attribute_at slot) k r
@@ -106,33 +87,16 @@ spelled_by types.WriteAction None k r = tt
 spelled_by (types.Time limit) None k r = omega arith
 spelled_by types.BitOut None k r = tt
 spelled_by types.PosOut None k r = tt
-spelled_by types.ExtOut None k r = absurd (cc)
-spelled_by types.BitWord None k r = absurd (cc)
 spelled_by types.BitMux None k r = tt
 spelled_by types.PosMux None k r = tt
-spelled_by types.Table None k r = absurd (cc)
-spelled_by t (Some attributes.Info) k r = absurd (cc)
-spelled_by t (Some attributes.Max) k r = absurd (cc)
-spelled_by t (Some attributes.Labels) k r = absurd (cc)
-spelled_by t (Some attributes.LutRaw) k r = absurd (cc)
 spelled_by t (Some attributes.TimeUnits) k r = tt
 spelled_by t (Some attributes.TimeRaw) k r = tt
-spelled_by t (Some attributes.CaptureWord) k r = absurd (cc)
-spelled_by t (Some attributes.BitOffset) k r = absurd (cc)
 spelled_by t (Some attributes.PosCapture) k r = tt
 spelled_by t (Some attributes.Offset) k r = tt
 spelled_by t (Some attributes.Scale) k r = tt
-spelled_by t (Some attributes.Units) k r = absurd (cc)
-spelled_by t (Some attributes.Scaled) k r = absurd (cc)
 spelled_by t (Some attributes.ExtCapture) k r = tt
-spelled_by t (Some attributes.Bits) k r = absurd (cc)
 spelled_by t (Some attributes.Delay) k r = tt
-spelled_by t (Some attributes.MaxDelay) k r = absurd (cc)
-spelled_by t (Some attributes.MaxLength) k r = absurd (cc)
-spelled_by t (Some attributes.Length) k r = absurd (cc)
-spelled_by t (Some attributes.RowWords) k r = absurd (cc)
-spelled_by t (Some attributes.Fields) k r = absurd (cc)
-spelled_by t (Some attributes.Base64) k r = absurd (cc)
+spelled_by t o k r = absurd (cc)
 
 pub spelled_kind : (slot : Slot) → is_assignable slot ≡ true → is_units (attribute_at slot) ≡ false → IsSpelledKind (kind_of slot)
 spelled_kind slot k r = spelled_by (type_at slot) (attribute_at slot) k r
@@ -140,41 +104,13 @@ spelled_kind slot k r = spelled_by (type_at slot) (attribute_at slot) k r
 -- the units in force don't matter for the range
 
 pub range_now : (u : ℕ) (t : FieldType) (o : Option Attribute) (raw : ℕ) → IsRaw (kind_by t o) raw → IsRaw (kind_in u t o) raw
-range_now u (types.ParamUint limit) None raw h = h
-range_now u types.ParamInt None raw h = h
-range_now u types.ParamBit None raw h = h
-range_now u (types.ParamEnum labels) None raw h = h
-range_now u types.ParamLut None raw h = h
-range_now u types.ReadUint None raw h = h
-range_now u (types.ReadEnum labels) None raw h = h
-range_now u types.WriteAction None raw h = h
 range_now u (types.Time limit) None raw h = h
-range_now u types.BitOut None raw h = h
-range_now u types.PosOut None raw h = h
-range_now u types.ExtOut None raw h = h
-range_now u types.BitWord None raw h = h
-range_now u types.BitMux None raw h = h
-range_now u types.PosMux None raw h = h
-range_now u types.Table None raw h = h
+range_now u t None raw h = h
 range_now u t (Some attribute) raw h = h
 
 pub range_kept : (u : ℕ) (t : FieldType) (o : Option Attribute) (raw : ℕ) → IsRaw (kind_in u t o) raw → IsRaw (kind_by t o) raw
-range_kept u (types.ParamUint limit) None raw h = h
-range_kept u types.ParamInt None raw h = h
-range_kept u types.ParamBit None raw h = h
-range_kept u (types.ParamEnum labels) None raw h = h
-range_kept u types.ParamLut None raw h = h
-range_kept u types.ReadUint None raw h = h
-range_kept u (types.ReadEnum labels) None raw h = h
-range_kept u types.WriteAction None raw h = h
 range_kept u (types.Time limit) None raw h = h
-range_kept u types.BitOut None raw h = h
-range_kept u types.PosOut None raw h = h
-range_kept u types.ExtOut None raw h = h
-range_kept u types.BitWord None raw h = h
-range_kept u types.BitMux None raw h = h
-range_kept u types.PosMux None raw h = h
-range_kept u types.Table None raw h = h
+range_kept u t None raw h = h
 range_kept u t (Some attribute) raw h = h
 
 -- RAW is an attribute of a function or of a time
@@ -239,31 +175,10 @@ own_range u slot o raw e h =
     subst P (sym e) (range_kept u (type_at slot) o raw h)
 
 target_by_range : (u : ℕ) (slot : Slot) (o : Option Attribute) (raw : ℕ) → IsSlot slot → attribute_at slot ≡ o → IsRaw (kind_in u (type_at slot) o) raw → CanBe (target_by o slot) raw
-target_by_range u slot None raw s e h k = own_range u slot None raw e h
-target_by_range u slot (Some attributes.Info) raw s e h k = own_range u slot (Some attributes.Info) raw e h
-target_by_range u slot (Some attributes.Max) raw s e h k = own_range u slot (Some attributes.Max) raw e h
-target_by_range u slot (Some attributes.Labels) raw s e h k = own_range u slot (Some attributes.Labels) raw e h
-target_by_range u slot (Some attributes.LutRaw) raw s e h k = own_range u slot (Some attributes.LutRaw) raw e h
-target_by_range u slot (Some attributes.TimeUnits) raw s e h k = own_range u slot (Some attributes.TimeUnits) raw e h
 target_by_range u slot (Some attributes.TimeRaw) raw s e h k =
     let w = which slot attributes.TimeRaw s e in
     ticks_of (type_at slot) (slot.attr - 1) raw w.0 w.1 h k
-target_by_range u slot (Some attributes.CaptureWord) raw s e h k = own_range u slot (Some attributes.CaptureWord) raw e h
-target_by_range u slot (Some attributes.BitOffset) raw s e h k = own_range u slot (Some attributes.BitOffset) raw e h
-target_by_range u slot (Some attributes.PosCapture) raw s e h k = own_range u slot (Some attributes.PosCapture) raw e h
-target_by_range u slot (Some attributes.Offset) raw s e h k = own_range u slot (Some attributes.Offset) raw e h
-target_by_range u slot (Some attributes.Scale) raw s e h k = own_range u slot (Some attributes.Scale) raw e h
-target_by_range u slot (Some attributes.Units) raw s e h k = own_range u slot (Some attributes.Units) raw e h
-target_by_range u slot (Some attributes.Scaled) raw s e h k = own_range u slot (Some attributes.Scaled) raw e h
-target_by_range u slot (Some attributes.ExtCapture) raw s e h k = own_range u slot (Some attributes.ExtCapture) raw e h
-target_by_range u slot (Some attributes.Bits) raw s e h k = own_range u slot (Some attributes.Bits) raw e h
-target_by_range u slot (Some attributes.Delay) raw s e h k = own_range u slot (Some attributes.Delay) raw e h
-target_by_range u slot (Some attributes.MaxDelay) raw s e h k = own_range u slot (Some attributes.MaxDelay) raw e h
-target_by_range u slot (Some attributes.MaxLength) raw s e h k = own_range u slot (Some attributes.MaxLength) raw e h
-target_by_range u slot (Some attributes.Length) raw s e h k = own_range u slot (Some attributes.Length) raw e h
-target_by_range u slot (Some attributes.RowWords) raw s e h k = own_range u slot (Some attributes.RowWords) raw e h
-target_by_range u slot (Some attributes.Fields) raw s e h k = own_range u slot (Some attributes.Fields) raw e h
-target_by_range u slot (Some attributes.Base64) raw s e h k = own_range u slot (Some attributes.Base64) raw e h
+target_by_range u slot o raw s e h k = own_range u slot o raw e h
 
 pub target_range : (settings : Settings) (slot : Slot) (raw : ℕ) → IsSlot slot → IsRaw (kind_now settings slot) raw → CanBe (target slot) raw
 target_range settings slot raw s h = target_by_range (raw_of settings (units_slot slot)) slot (attribute_at slot) raw s refl h
@@ -276,29 +191,8 @@ no_own slot o raw e h k =
     absurd (both_ways _ h kept)
 
 units_by_range : (slot : Slot) (o : Option Attribute) (raw : ℕ) → attribute_at slot ≡ o → is_units o ≡ true → CanBe (target_by o slot) raw
-units_by_range slot None raw e u = absurd (cc)
-units_by_range slot (Some attributes.Info) raw e u = absurd (cc)
-units_by_range slot (Some attributes.Max) raw e u = absurd (cc)
-units_by_range slot (Some attributes.Labels) raw e u = absurd (cc)
-units_by_range slot (Some attributes.LutRaw) raw e u = absurd (cc)
-units_by_range slot (Some attributes.TimeUnits) raw e u = absurd (cc)
-units_by_range slot (Some attributes.TimeRaw) raw e u = absurd (cc)
-units_by_range slot (Some attributes.CaptureWord) raw e u = absurd (cc)
-units_by_range slot (Some attributes.BitOffset) raw e u = absurd (cc)
-units_by_range slot (Some attributes.PosCapture) raw e u = absurd (cc)
-units_by_range slot (Some attributes.Offset) raw e u = absurd (cc)
-units_by_range slot (Some attributes.Scale) raw e u = absurd (cc)
 units_by_range slot (Some attributes.Units) raw e u = no_own slot (Some attributes.Units) raw e refl
-units_by_range slot (Some attributes.Scaled) raw e u = absurd (cc)
-units_by_range slot (Some attributes.ExtCapture) raw e u = absurd (cc)
-units_by_range slot (Some attributes.Bits) raw e u = absurd (cc)
-units_by_range slot (Some attributes.Delay) raw e u = absurd (cc)
-units_by_range slot (Some attributes.MaxDelay) raw e u = absurd (cc)
-units_by_range slot (Some attributes.MaxLength) raw e u = absurd (cc)
-units_by_range slot (Some attributes.Length) raw e u = absurd (cc)
-units_by_range slot (Some attributes.RowWords) raw e u = absurd (cc)
-units_by_range slot (Some attributes.Fields) raw e u = absurd (cc)
-units_by_range slot (Some attributes.Base64) raw e u = absurd (cc)
+units_by_range slot o raw e u = absurd (cc)
 
 pub units_range : (slot : Slot) (raw : ℕ) → is_units (attribute_at slot) ≡ true → CanBe (target slot) raw
 units_range slot raw u = units_by_range slot (attribute_at slot) raw refl u
@@ -327,44 +221,9 @@ unfolding spelled function_of
 function_short text raw e = ltb-false 128 (length text) (given_function (nat_lt 128 (length text)) _ raw e)
 
 short_by : (u : ℕ) (t : FieldType) (o : Option Attribute) (text : List ℕ) (raw : ℕ) → given_by (is_units o) (kind_in u t o) text ≡ Ok raw → IfSome (kept_by t o text) (λ _. length text ≤ 128)
-short_by u (types.ParamUint limit) None text raw h = tt
-short_by u types.ParamInt None text raw h = tt
-short_by u types.ParamBit None text raw h = tt
-short_by u (types.ParamEnum labels) None text raw h = tt
 short_by u types.ParamLut None text raw h = function_short text raw h
-short_by u types.ReadUint None text raw h = tt
-short_by u (types.ReadEnum labels) None text raw h = tt
-short_by u types.WriteAction None text raw h = tt
-short_by u (types.Time limit) None text raw h = tt
-short_by u types.BitOut None text raw h = tt
-short_by u types.PosOut None text raw h = tt
-short_by u types.ExtOut None text raw h = tt
-short_by u types.BitWord None text raw h = tt
-short_by u types.BitMux None text raw h = tt
-short_by u types.PosMux None text raw h = tt
-short_by u types.Table None text raw h = tt
-short_by u t (Some attributes.Info) text raw h = tt
-short_by u t (Some attributes.Max) text raw h = tt
-short_by u t (Some attributes.Labels) text raw h = tt
-short_by u t (Some attributes.LutRaw) text raw h = tt
-short_by u t (Some attributes.TimeUnits) text raw h = tt
-short_by u t (Some attributes.TimeRaw) text raw h = tt
-short_by u t (Some attributes.CaptureWord) text raw h = tt
-short_by u t (Some attributes.BitOffset) text raw h = tt
-short_by u t (Some attributes.PosCapture) text raw h = tt
-short_by u t (Some attributes.Offset) text raw h = tt
-short_by u t (Some attributes.Scale) text raw h = tt
 short_by u t (Some attributes.Units) text raw h = units_short text raw h
-short_by u t (Some attributes.Scaled) text raw h = tt
-short_by u t (Some attributes.ExtCapture) text raw h = tt
-short_by u t (Some attributes.Bits) text raw h = tt
-short_by u t (Some attributes.Delay) text raw h = tt
-short_by u t (Some attributes.MaxDelay) text raw h = tt
-short_by u t (Some attributes.MaxLength) text raw h = tt
-short_by u t (Some attributes.Length) text raw h = tt
-short_by u t (Some attributes.RowWords) text raw h = tt
-short_by u t (Some attributes.Fields) text raw h = tt
-short_by u t (Some attributes.Base64) text raw h = tt
+short_by u t o text raw h = tt
 
 -- what is given is given to a slot that takes a value
 given_where : (a : Bool) (given : Result ℕ Refusal) (raw : ℕ) → (if not a then Err refusals.NotWriteable else given) ≡ Ok raw → (a ≡ true) × (given ≡ Ok raw)

@@ -1,0 +1,118 @@
+ghost use Rattle.std.specs.Prelude.{◌≡◌, ◌<◌};
+ghost use Rattle.pb_core.specs.Answer.{CanHappen};
+
+use pb_core::{Answer, Core, Event, Stimulus};
+use pb_words::{Steps, Text};
+use std::alloc::Global;
+use std::marker::Brand;
+use std::process::Abort;
+use std::sync::ledger::{Blank, Ledger};
+use std::test::Fail;
+
+/// The box is told to go to this tick; then this line is answered by these bytes.
+type Move<'a> = (u64, &'a str, &'a str);
+
+/// TTL input 1 is high and encoder 1 stands at -5 from tick 10 on.
+fn stimulus(alloc: Global) -> Result<Stimulus, Fail> {
+    let mut stimulus = Stimulus::new(alloc);
+    if stimulus.push(10, 0, 1).is_err() {
+        stimulus.push(10, 0, 1)?;
+    }
+    stimulus.push(10, 6, -5)?;
+    Ok(stimulus)
+}
+
+/// The core with this stimulus. Where memory lacks once, the stimulus comes back.
+fn opened(alloc: Global, stimulus: Stimulus) -> Result<Core, Fail> {
+    match Core::new(alloc, stimulus) {
+        Ok(core) => Ok(core),
+        Err(back) => Ok(Core::new(alloc, back)?),
+    }
+}
+
+/// What an event is answered. Where memory lacks once, nothing changed, and the event happens again.
+fn told<L: Ledger>(steps: &mut Steps<L>, core: &mut Core, event: &Event) -> Result<Answer, Fail>
+    requires { CanHappen event.now }
+{
+    if let Ok(answer) = core.apply(event, steps) {
+        return Ok(answer);
+    }
+    Ok(core.apply(event, steps)?)
+}
+
+/// The box goes to this tick, of which a session writes nothing.
+fn go<L: Ledger>(
+    rt: &impl Abort,
+    steps: &mut Steps<L>,
+    core: &mut Core,
+    to: u64,
+) -> Result<(), Fail> {
+    assert!(rt; to < 1 << 62);
+    let reached = told(steps, core, &Event::Advance { to })?;
+    assert_eq!(rt; reached.bytes().len(), 0);
+    Ok(())
+}
+
+/// A line of session 1.
+fn line(alloc: Global, bytes: &[u8]) -> Result<Event, Fail> {
+    let mut text = Text::new(alloc);
+    if text.append(bytes).is_err() {
+        text.append(bytes)?;
+    }
+    Ok(Event::Line { id: 1, text })
+}
+
+/// Plays the moves.
+fn play<L: Ledger>(
+    rt: &impl Abort,
+    alloc: Global,
+    steps: &mut Steps<L>,
+    core: &mut Core,
+    moves: &[Move<'_>],
+) -> Result<(), Fail> {
+    for (to, text, wanted) in moves {
+        go(rt, steps, core, *to)?;
+        let said = line(alloc, text.as_bytes())?;
+        let answer = told(steps, core, &said)?;
+        assert_eq!(rt; answer.bytes(), wanted.as_bytes(), "at {to} of {text}");
+    }
+    Ok(())
+}
+
+fn play_from_the_start<L: Ledger>(
+    rt: &impl Abort,
+    alloc: Global,
+    blank: Blank,
+    moves: &[Move<'_>],
+) -> Result<u64, Fail>
+    requires name { blank.name ≡ L.name }
+    requires parts { blank.parts ≡ L.parts }
+    requires some { 0 < blank.parts }
+{
+    let mut steps: Steps<L> = Steps::new(blank);
+    let mut core = opened(alloc, stimulus(alloc)?)?;
+    play(rt, alloc, &mut steps, &mut core, moves)?;
+    Ok(core.now())
+}
+
+/// Also that a tick below now, which no script can name, changes nothing. Each allocation may fail once.
+#[test]
+fn input_is_seen_one_tick_later(rt: HostRuntime) -> Result<(), Fail> {
+    let now = play_from_the_start::<Brand>(
+        &rt,
+        rt.alloc(),
+        Blank::new(1),
+        &[
+            (0, "LUT1.INPA=TTLIN1.VAL\n", "OK\n"),
+            (0, "LUT1.FUNC=~A\n", "OK\n"),
+            (10, "LUT1.OUT?\n", "OK =1\n"),
+            (11, "LUT1.OUT?\n", "OK =0\n"),
+            (11, "INENC1.VAL?\n", "OK =-5\n"),
+            (3, "LUT1.OUT?\n", "OK =0\n"),
+            (3, "*ECHO hi?\n", "OK =hi\n"),
+            (3, "LUT1.OUT.NOPE=1\n", "ERR No such attribute\n"),
+        ],
+    )?;
+    assert_eq!(rt; now, 11);
+    Ok(())
+}

@@ -1,0 +1,116 @@
+ghost use Rattle.std.specs.Prelude.{IfOk};
+ghost use Rattle.pb_fields.specs.Slots.{IsSlot};
+
+use pb_config::{Config, field_slot, has_line};
+use pb_fields::{Attribute, Catalog, Slot, attribute, following};
+use pb_model::Change;
+use pb_words::Refusal;
+use std::alloc::Global;
+use std::process::Abort;
+use std::test::Fail;
+
+/// The settings at first. Where memory lacks once, they are asked for again.
+fn fresh(alloc: Global) -> Result<Config, Fail> {
+    if let Ok(config) = Config::new(alloc) {
+        return Ok(config);
+    }
+    Ok(Config::new(alloc)?)
+}
+
+fn slot_of(catalog: &Catalog, target: &str) -> Result<Slot, Fail>
+    ensures { IfOk result (λ slot. IsSlot slot) }
+{
+    let slot = catalog.find(target.as_bytes()).ok().ok_or("no such slot")?;
+    Ok(slot)
+}
+
+/// What is printed of the slot is the text, or the line of its refusal.
+fn prints(rt: &impl Abort, config: &Config, slot: Slot, wanted: &str)
+    requires { IsSlot slot }
+{
+    let mut out = [0; 128];
+    assert!(rt; has_line(slot), "{wanted}");
+    match config.show(slot, &mut out) {
+        Ok(len) => {
+            assert!(rt; len <= 128);
+            assert_eq!(rt; &out[..len], wanted.as_bytes(), "at {slot:?}");
+        }
+        Err(refusal) => assert_eq!(rt; refusal.line(), wanted.as_bytes(), "at {slot:?}"),
+    }
+}
+
+fn prints_scaled(rt: &impl Abort, config: &Config, slot: Slot, value: i32, wanted: &str)
+    requires { IsSlot slot }
+{
+    let mut out = [0; 128];
+    let Some(Attribute::Scaled) = attribute(slot) else {
+        panic!(rt; "{slot:?}");
+    };
+    let len = config.show_scaled(slot, value, &mut out);
+    assert!(rt; len <= 128);
+    assert_eq!(rt; &out[..len], wanted.as_bytes(), "at {slot:?}");
+}
+
+#[test]
+fn settings_take_values_and_print_them(rt: HostRuntime) -> Result<(), Fail> {
+    let catalog = Catalog::new(rt.alloc())?;
+    let mut config = fresh(rt.alloc())?;
+    let slot = slot_of(&catalog, "LUT1.FUNC")?;
+    let change = Change::Set { slot, raw: 0xff00 };
+    assert_eq!(rt; config.assign(slot, b" ~A & B"), Ok(Some(change)));
+    prints(&rt, &config, slot, "~A&B");
+    let raw = slot_of(&catalog, "LUT1.FUNC.RAW")?;
+    assert_eq!(rt; config.assign(raw, b"0x1"), Err(Refusal::NotWriteable));
+    prints(&rt, &config, raw, "0x0000FF00");
+    assert_eq!(rt; field_slot(raw), slot);
+    prints(&rt, &config, slot_of(&catalog, "SRGATE1.FORCE_SET")?, "ERR Not readable\n");
+    let scale = slot_of(&catalog, "INENC1.VAL.SCALE")?;
+    assert_eq!(rt; config.assign(scale, b"-.5"), Ok(None));
+    prints_scaled(&rt, &config, slot_of(&catalog, "INENC1.VAL.SCALED")?, 3, "-1.5");
+    Ok(())
+}
+
+/// Whether the slot prints a value and takes one. Then it takes what it prints, and prints it again.
+fn takes_its_own(rt: &impl Abort, config: &mut Config, slot: Slot) -> bool
+    requires { IsSlot slot }
+{
+    let mut out = [0; 128];
+    if !has_line(slot) {
+        return false;
+    }
+    let Ok(len) = config.show(slot, &mut out) else {
+        return false;
+    };
+    assert!(rt; len <= 128);
+    if config.assign(slot, &out[..len]).is_err() {
+        return false;
+    }
+    let mut again = [0; 128];
+    assert_eq!(rt; config.show(slot, &mut again), Ok(len), "at {slot:?}");
+    assert_eq!(rt; &again[..len], &out[..len], "at {slot:?}");
+    true
+}
+
+/// How many slots do.
+fn count_of_taken(rt: &impl Abort, config: &mut Config) -> u32 {
+    let mut count = 0u32;
+    let mut next = following(None);
+    for _ in 0..2000 {
+        let Some(slot) = next else {
+            break;
+        };
+        if takes_its_own(rt, config, slot) {
+            count = count.saturating_add(1);
+        }
+        next = following(Some(slot));
+    }
+    assert_eq!(rt; next, None);
+    count
+}
+
+#[test]
+fn every_slot_takes_what_it_prints(rt: HostRuntime) -> Result<(), Fail> {
+    let mut config = fresh(rt.alloc())?;
+    assert_eq!(rt; count_of_taken(&rt, &mut config), 421);
+    Ok(())
+}

@@ -1,0 +1,6 @@
+//! Tests of the public calls of the crates that read and print: what no script
+//! reaches, and each call once on its happy path.
+#![tactic(auto)]
+
+#[cfg(test)]
+mod config;
