@@ -7,9 +7,10 @@ use Rattle.std.specs.Option.{ok_or}
 use Rattle.std.specs.Char.{digit_value}
 use Rattle.pb_words.specs.declared.refusals.Refusal.{Refusal}
 use Rattle.std.specs.Str.Parse.{digits_value, digits_value_after}
+use Rattle.pb_words.specs.Cuts.{without_spaces}
 use Rattle.pb_lut.specs.Expressions.{Tree, ors, only_xor, only_and, only_not, only_atom, letter, zero_bit, print, number}
 use Rattle.pb_lut.specs.Readings.{Ends, Reads, ReadsNothing}
-use Rattle.pb_lut.specs.Functions.{WritesHexDigits, WritesHex, WritesExpression, WritesFunction, without_spaces}
+use Rattle.pb_lut.specs.Functions.{WritesHexDigits, WritesHex, WritesExpression, WritesFunction}
 use Rattle.pb_lut.proofs.ReadingLemmas.{cut, print-injective}
 
 pub at_end : Ends ors []

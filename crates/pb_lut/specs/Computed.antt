@@ -5,8 +5,8 @@ use Rattle.std.specs.Char.{digit_value}
 use Rattle.std.specs.Str.Parse.{digits_value}
 use Rattle.std.specs.Cmp.Lexicographic.{pointwise}
 use Rattle.std.specs.Option.{option_map, option_map_or, option_and_then}
+use Rattle.pb_words.specs.Cuts.{without_spaces}
 use Rattle.pb_lut.specs.Expressions.{Level, ors, xors, ands, nots, atoms, Tree, only_xor, or_of, only_and, xor_of, only_not, and_of, only_atom, not_of, letter, parens, print, number}
-use Rattle.pb_lut.specs.Functions.{without_spaces}
 use Rattle.pb_lut.specs.Readings.{letter_of}
 
 -- what follows the byte, where the text begins with it

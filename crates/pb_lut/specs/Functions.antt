@@ -1,12 +1,9 @@
 -- The text that sets a lookup table, and the number that it writes.
-use Rattle.std.specs.Prelude.{◌≡◌, ℕ, ◌<◌, ◌≤◌, ◌⊎◌, not, ◌==◌, List, ◌++◌, length, filter, All, codes}
+use Rattle.std.specs.Prelude.{◌≡◌, ℕ, ◌<◌, ◌≤◌, ◌⊎◌, List, ◌++◌, length, All, codes}
 use Rattle.std.specs.Char.{digit_value}
 use Rattle.std.specs.Str.Parse.{digits_value}
+use Rattle.pb_words.specs.Cuts.{without_spaces}
 use Rattle.pb_lut.specs.Expressions.{Tree, ors, print, number}
-
--- the text without its spaces
-abbrev pub without_spaces : List ℕ → List ℕ
-without_spaces text = filter (λ b. not (b == 32)) text
 
 -- these are one to eight hexadecimal digits, of either case, and n is their number
 pub record WritesHexDigits (digits : List ℕ) (n : ℕ) : Type 0 where

@@ -2,11 +2,11 @@ ghost use Rattle.std.specs.Prelude.{◌≡◌, ◌≢◌, ℕ, ◌<◌, ◌≤�
 ghost use Rattle.std.specs.Char.{digit_value};
 ghost use Rattle.std.specs.Option.{SomeIff};
 ghost use Rattle.std.specs.Result.{result_ok};
-ghost use Rattle.pb_lut.specs.Functions.{without_spaces, WritesHexDigits, WritesHex, WritesExpression, WritesFunction};
+ghost use Rattle.pb_lut.specs.Functions.{WritesHexDigits, WritesHex, WritesExpression, WritesFunction};
 ghost use Rattle.pb_lut.specs.Computed.{function_of};
 
 use crate::expressions::{after_byte, read_ors};
-use pb_words::Refusal;
+use pb_words::{Refusal, take_out_spaces};
 
 const ROOM: usize = 128;
 
@@ -28,22 +28,6 @@ pub fn parse(text: &[u8]) -> Result<u32, Refusal>
     let mut bare = [0; ROOM];
     let n = take_out_spaces(text, &mut bare);
     read_function(&bare[..n]).ok_or(Refusal::MalformedValue)
-}
-
-// Copies all bytes but the spaces to the front of `out`, and answers how many bytes these are.
-fn take_out_spaces(text: &[u8], out: &mut [u8]) -> usize
-    requires { length text.now ≤ length out.old }
-    ensures len { result ≤ length out.old }
-    ensures front { take result out.new ≡ without_spaces text.now }
-{
-    let mut n = 0;
-    for b in text {
-        if *b != b' ' {
-            out[n] = *b;
-            n += 1;
-        }
-    }
-    n
 }
 
 fn read_function(text: &[u8]) -> Option<u32>
