@@ -1,3 +1,4 @@
+-- Words of private helpers: no public clause cites them.
 -- A script as it is kept for playing: the rows of its stimulus, and its steps.
 use Rattle.std.specs.Prelude.{ℕ, List, [], ◌∷◌, ◌++◌, Option, Some, None}
 use Rattle.std.specs.List.{flat_map}
