@@ -5,7 +5,7 @@ use Rattle.pb_ports.specs.Ports.{Takes, IsSpent, Rose}
 use Rattle.panda_sim.specs.declared.statuses.Status.{Status}
 use Rattle.panda_sim.specs.declared.statuses.Status.TheVariants as statuses
 use Rattle.panda_sim.specs.Script.{Line, IsScript}
-use Rattle.panda_sim.specs.Run.{Replays, ReadsNoScript, Leaves, Refuses, Completes}
+use Rattle.panda_sim.specs.Run.{Replays, ReadsNoScript, Leaves, EndsOnNoScript, EndsOnScript}
 
 -- what was taken of told bytes, and what is left
 taken_of : (bytes read : List ℕ) (left : Option (List ℕ)) → Takes (Some bytes) read left → IsSpent left → read ≡ bytes
@@ -29,22 +29,22 @@ no_script_told bytes given left e r lines s =
     ]
 
 -- an input that is no script
-pub refuses : (status : Status) (bytes : List ℕ) (given left held now : Option (List ℕ)) → Leaves status given left held now → status ≢ statuses.Usage → given ≡ Some bytes → ((lines : List Line) → ¬ (IsScript bytes lines)) → Refuses status
-refuses statuses.Ok bytes given left held now h known e none = let s = replays_told bytes given left _ e h in none s.0 s.1
-refuses statuses.Usage bytes given left held now h known e none = known refl
-refuses statuses.Script bytes given left held now h known e none = tt
-refuses statuses.ReadFault bytes given left held now h known e none = tt
-refuses statuses.WriteFault bytes given left held now h known e none = let s = replays_told bytes given left _ e h in none s.0 s.1
-refuses statuses.OutOfMemory bytes given left held now h known e none = tt
+pub ends_on_no_script : (status : Status) (bytes : List ℕ) (given left held now : Option (List ℕ)) → Leaves status given left held now → status ≢ statuses.Usage → given ≡ Some bytes → ((lines : List Line) → ¬ (IsScript bytes lines)) → EndsOnNoScript status
+ends_on_no_script statuses.Ok bytes given left held now h known e none = let s = replays_told bytes given left _ e h in none s.0 s.1
+ends_on_no_script statuses.Usage bytes given left held now h known e none = known refl
+ends_on_no_script statuses.Script bytes given left held now h known e none = tt
+ends_on_no_script statuses.ReadFault bytes given left held now h known e none = tt
+ends_on_no_script statuses.WriteFault bytes given left held now h known e none = let s = replays_told bytes given left _ e h in none s.0 s.1
+ends_on_no_script statuses.OutOfMemory bytes given left held now h known e none = tt
 
 -- a script where nothing fails
-pub completes : (status : Status) (bytes : List ℕ) (lines : List Line) (given left held now : Option (List ℕ)) (in_old in_new out_old out_new : ℕ) → Leaves status given left held now → status ≢ statuses.Usage → (status ≡ statuses.ReadFault → Rose in_old in_new) → (status ≡ statuses.WriteFault → Rose out_old out_new) → given ≡ Some bytes → IsScript bytes lines → ¬ (Rose in_old in_new) → ¬ (Rose out_old out_new) → Completes status
-completes statuses.Ok bytes lines given left held now a b c d h known r w e s i o = tt
-completes statuses.Usage bytes lines given left held now a b c d h known r w e s i o = known refl
-completes statuses.Script bytes lines given left held now a b c d h known r w e s i o = no_script_told bytes given left e h.0 lines s
-completes statuses.ReadFault bytes lines given left held now a b c d h known r w e s i o = i (r refl)
-completes statuses.WriteFault bytes lines given left held now a b c d h known r w e s i o = o (w refl)
-completes statuses.OutOfMemory bytes lines given left held now a b c d h known r w e s i o = tt
+pub ends_on_script : (status : Status) (bytes : List ℕ) (lines : List Line) (given left held now : Option (List ℕ)) (in_old in_new out_old out_new : ℕ) → Leaves status given left held now → status ≢ statuses.Usage → (status ≡ statuses.ReadFault → Rose in_old in_new) → (status ≡ statuses.WriteFault → Rose out_old out_new) → given ≡ Some bytes → IsScript bytes lines → ¬ (Rose in_old in_new) → ¬ (Rose out_old out_new) → EndsOnScript status
+ends_on_script statuses.Ok bytes lines given left held now a b c d h known r w e s i o = tt
+ends_on_script statuses.Usage bytes lines given left held now a b c d h known r w e s i o = known refl
+ends_on_script statuses.Script bytes lines given left held now a b c d h known r w e s i o = no_script_told bytes given left e h.0 lines s
+ends_on_script statuses.ReadFault bytes lines given left held now a b c d h known r w e s i o = i (r refl)
+ends_on_script statuses.WriteFault bytes lines given left held now a b c d h known r w e s i o = o (w refl)
+ends_on_script statuses.OutOfMemory bytes lines given left held now a b c d h known r w e s i o = tt
 
 -- the words are known, so the status isn't that of a wrong use
 pub not_usage : (status : Status) (Known : Type 0) → (status ≡ statuses.Usage → ¬ Known) → Known → status ≢ statuses.Usage

@@ -4,3 +4,4 @@ pub mod ReadSoFar
 pub mod PlayedSoFar
 pub mod OneWord
 pub mod Causes
+pub mod TakenLemmas

@@ -1,6 +1,5 @@
 -- A text is cut in one way: the digits at its front, and what a line says.
-use Rattle.std.proofs.Common.{◌≡◌, ◌≢◌, ℕ, length, get_or, drop, ◌^◌, ◌<◌, ◌≤◌, ◌⊎◌, List, [], ◌∷◌, ◌++◌, All, Err, ℤ, pos, codes, refl, sym, ap, subst, inl, inr, ◌∙◌, arith}
-use Rattle.std.proofs.lemmas.List.Elements.{All-head, All-tail}
+use Rattle.std.proofs.Common.{◌≡◌, ◌≢◌, ℕ, length, get_or, drop, ◌^◌, ◌<◌, ◌≤◌, ◌⊎◌, List, [], ◌∷◌, ◌++◌, All, Err, ℤ, pos, codes, sym, ap, subst, inl, inr, ◌∙◌, arith}
 use Rattle.pb_words.specs.Numbers.{IsDigit, ReadsUint, WritesNumber}
 use Rattle.pb_words.specs.declared.NumFault.{NumFault}
 use Rattle.pb_words.specs.declared.NumFault.TheVariants as faults

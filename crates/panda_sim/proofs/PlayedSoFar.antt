@@ -8,7 +8,8 @@ use Rattle.pb_core.specs.Answer.{CoreState, after, after_all}
 use Rattle.panda_sim.specs.declared.statuses.Played.{Played}
 use Rattle.panda_sim.specs.declared.statuses.Played.TheVariants as ends
 use Rattle.panda_sim.specs.Output.{written, sections}
-use Rattle.panda_sim.specs.Plays.{AddsFront, Plays}
+use Rattle.panda_sim.specs.Run.{AddsFront}
+use Rattle.panda_sim.specs.Plays.{Plays}
 
 -- some front of the bytes is added, and the rest is still to come
 pub record IsPlayed (all rest : List ℕ) (old now : Option (List ℕ)) : Type 0 where

@@ -1,4 +1,4 @@
-pub mod Draft
+pub mod KeptScript
 pub mod Lines
 pub mod Output
 pub mod Plays

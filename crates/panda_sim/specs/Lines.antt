@@ -1,3 +1,4 @@
+-- Words of private helpers: no public clause cites them.
 -- The lines that are read, as the lines of a script.
 use Rattle.std.specs.Prelude.{◌≡◌, ◌<◌, ◌⊎◌, pos}
 use Rattle.panda_sim.specs.declared.lines.ReadDeed.{ReadDeed}

@@ -1,11 +1,14 @@
 -- What a run of the program reads and writes, by the status with which it ends.
-use Rattle.std.specs.Prelude.{◌≡◌, ℕ, ◌<◌, ◌⊎◌, List, [], ◌∷◌, length, Option, codes}
+use Rattle.std.specs.Prelude.{◌≡◌, ℕ, ◌<◌, ◌≤◌, ◌⊎◌, List, [], ◌∷◌, ◌++◌, length, Option, codes}
 use Rattle.pb_ports.specs.Ports.{Takes, IsSpent, Adds}
 use Rattle.panda_sim.specs.declared.statuses.Status.{Status}
 use Rattle.panda_sim.specs.declared.statuses.Status.TheVariants as statuses
 use Rattle.panda_sim.specs.Script.{Line, IsScript}
 use Rattle.panda_sim.specs.Output.{output}
-use Rattle.panda_sim.specs.Plays.{AddsFront}
+
+-- some front of these bytes is added
+abbrev pub AddsFront : Option (List ℕ) → List ℕ → Option (List ℕ) → Type 0
+AddsFront old bytes new = (front : List ℕ) × (rest : List ℕ) × (bytes ≡ front ++ rest) × Adds old front new
 
 -- the words are the one word `replay`
 abbrev pub IsReplay : List (List ℕ) → Type 0
@@ -41,33 +44,29 @@ Leaves statuses.WriteFault given left held now = Replays given left (λ out. Add
 -- nothing, or a front of the output of the script
 Leaves statuses.OutOfMemory given left held now = (now ≡ held) ⊎ Replays given left (λ out. AddsFront held out now)
 
--- what a run answers to an input that is no script
-abbrev pub Refuses : Status → Type 0
-Refuses statuses.Ok = ⊥
-Refuses statuses.Usage = ⊥
-Refuses statuses.Script = Unit {0}
-Refuses statuses.ReadFault = Unit {0}
-Refuses statuses.WriteFault = ⊥
-Refuses statuses.OutOfMemory = Unit {0}
+-- how a run may end where the input is no script
+abbrev pub EndsOnNoScript : Status → Type 0
+EndsOnNoScript statuses.Ok = ⊥
+EndsOnNoScript statuses.Usage = ⊥
+EndsOnNoScript statuses.Script = Unit {0}
+EndsOnNoScript statuses.ReadFault = Unit {0}
+EndsOnNoScript statuses.WriteFault = ⊥
+EndsOnNoScript statuses.OutOfMemory = Unit {0}
 
--- what a run answers to a script where nothing fails
-abbrev pub Completes : Status → Type 0
-Completes statuses.Ok = Unit {0}
-Completes statuses.Usage = ⊥
-Completes statuses.Script = ⊥
-Completes statuses.ReadFault = ⊥
-Completes statuses.WriteFault = ⊥
-Completes statuses.OutOfMemory = Unit {0}
+-- how a run may end where the input is a script and nothing fails
+abbrev pub EndsOnScript : Status → Type 0
+EndsOnScript statuses.Ok = Unit {0}
+EndsOnScript statuses.Usage = ⊥
+EndsOnScript statuses.Script = ⊥
+EndsOnScript statuses.ReadFault = ⊥
+EndsOnScript statuses.WriteFault = ⊥
+EndsOnScript statuses.OutOfMemory = Unit {0}
 
--- the bytes are a script, and this holds of its output
-abbrev pub HasOutput : List ℕ → (List ℕ → Type 0) → Type 0
-HasOutput bytes Wrote = (lines : List Line) × IsScript bytes lines × Wrote (output lines)
-
--- What replaying these bytes leaves.
-abbrev pub Replayed : Status → List ℕ → Option (List ℕ) → Option (List ℕ) → Type 0
-Replayed statuses.Ok bytes held now = HasOutput bytes (λ out. Adds held out now)
-Replayed statuses.Usage bytes held now = ⊥
-Replayed statuses.Script bytes held now = ((lines : List Line) → ¬ (IsScript bytes lines)) × (now ≡ held)
-Replayed statuses.ReadFault bytes held now = ⊥
-Replayed statuses.WriteFault bytes held now = HasOutput bytes (λ out. AddsFront held out now)
-Replayed statuses.OutOfMemory bytes held now = (now ≡ held) ⊎ HasOutput bytes (λ out. AddsFront held out now)
+-- What is taken of the input is at most 16 MiB and one piece of 16 KiB: the last piece is read while at
+-- most 16 MiB are held.
+pub record TakesUpToOnePieceMore (given left : Option (List ℕ)) : Type 0 where
+  pub held : List ℕ
+  pub piece : List ℕ
+  pub taken : Takes given (held ++ piece) left
+  pub fits : length held ≤ 16777216
+  pub small : length piece ≤ 16384

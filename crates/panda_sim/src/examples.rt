@@ -9,7 +9,7 @@ pub fn worked_scripts()
     ensures empty { output (Timed 0 End ∷ []) ≡ [] }
     ensures latency { output (
         Timed 0 (Command 1 (codes "LUT1.INPA=TTLIN1.VAL"))
-        ∷ Timed 0 (Command 1 (codes "LUT1.FUNC=0x0000FFFF"))
+        ∷ Timed 0 (Command 1 (codes "LUT1.FUNC=~A"))
         ∷ Timed 10 (Command 1 (codes "TTLIN1.VAL?"))
         ∷ Timed 10 (Level 0 (pos 1))
         ∷ Timed 10 (Command 1 (codes "LUT1.OUT?"))
@@ -19,7 +19,7 @@ pub fn worked_scripts()
         ≡ codes "0 C 1 3\nOK\n0 C 1 3\nOK\n10 C 1 6\nOK =1\n10 C 1 6\nOK =1\n11 C 1 6\nOK =0\n" }
     ensures toggling { output (
         Timed 0 (Command 1 (codes "LUT1.INPA=LUT1.OUT"))
-        ∷ Timed 0 (Command 1 (codes "LUT1.FUNC=0x0000FFFF"))
+        ∷ Timed 0 (Command 1 (codes "LUT1.FUNC=~A"))
         ∷ Timed 9 (Command 1 (codes "LUT1.OUT?"))
         ∷ Timed 10 (Command 1 (codes "LUT1.OUT?"))
         ∷ Timed 10 End

@@ -4,7 +4,7 @@ ghost use Rattle.pb_core.specs.Stimulus.{last_tick};
 ghost use Rattle.panda_sim.specs.Script.{Line, Timed, is_end, IsScript};
 ghost use Rattle.panda_sim.specs.Lines.{deed_of, IsReadDeed};
 ghost use Rattle.panda_sim.specs.Output.{rows_of, events_of};
-ghost use Rattle.panda_sim.specs.Draft.{script_events};
+ghost use Rattle.panda_sim.specs.KeptScript.{script_events};
 
 use crate::cuts::cut_line;
 use crate::lines::{ReadDeed, ReadLine};

@@ -4,7 +4,7 @@ ghost use Rattle.pb_ports.specs.Ports.{Rose};
 ghost use Rattle.pb_core.specs.Answer.{after, after_all};
 ghost use Rattle.panda_sim.specs.Output.{written, sections};
 ghost use Rattle.panda_sim.specs.Plays.{Plays};
-ghost use Rattle.panda_sim.specs.Draft.{step_events, script_output};
+ghost use Rattle.panda_sim.specs.KeptScript.{step_events, script_output};
 
 use crate::scripts::{Script, Step};
 use crate::sections::write_section;

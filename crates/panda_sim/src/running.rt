@@ -1,7 +1,8 @@
 ghost use Rattle.std.specs.Prelude.{◌≡◌, ◌≢◌, ℕ, ◌<◌, ◌↔◌, ◌⊎◌, List, length, IsTrue, IfOk, IsErrOf};
 ghost use Rattle.pb_ports.specs.Ports.{Rose, Takes, IsSpent};
 ghost use Rattle.panda_sim.specs.Script.{Line, IsScript};
-ghost use Rattle.panda_sim.specs.Run.{IsReplay, Leaves, Replayed, Refuses, Completes};
+ghost use Rattle.panda_sim.specs.Run.{IsReplay, Leaves, EndsOnNoScript, EndsOnScript, TakesUpToOnePieceMore};
+ghost use Rattle.panda_sim.specs.Plays.{Replayed};
 
 use crate::parsing::{LONGEST, parse};
 use crate::playing::play;
@@ -21,6 +22,9 @@ pub fn run<S: Source, K: Sink, L: Ledger>(
 ) -> Status
     ensures leaves { Leaves result (S.left input.old) (S.left input.new) (K.held output.old) (K.held output.new) }
 
+    // However it ends, no more is read than a script and one piece.
+    ensures bounded { TakesUpToOnePieceMore (S.left input.old) (S.left input.new) }
+
     // The words alone make it a wrong use.
     ensures usage { (result ≡ Status.Usage) ↔ (¬ (IsReplay words.now)) }
     ensures known { result ≢ Status.Usage → IsReplay words.now }
@@ -31,12 +35,12 @@ pub fn run<S: Source, K: Sink, L: Ledger>(
 
     // What is no script is refused, unless the input fails or memory runs out first.
     ensures script { (bytes : List ℕ) → IsReplay words.now → S.left input.old ≡ Some bytes
-        → ((lines : List Line) → ¬ (IsScript bytes lines)) → Refuses result }
+        → ((lines : List Line) → ¬ (IsScript bytes lines)) → EndsOnNoScript result }
 
     // A script with no fault counted is played to its end, unless memory runs out.
     ensures complete { (bytes : List ℕ) (lines : List Line) → IsReplay words.now → S.left input.old ≡ Some bytes
         → IsScript bytes lines → ¬ (Rose (S.faults input.old) (S.faults input.new)) → ¬ (Rose (K.faults output.old) (K.faults output.new))
-        → Completes result }
+        → EndsOnScript result }
 {
     run_words(alloc, words, input, output, steps)
 }
@@ -49,6 +53,7 @@ fn run_words<S: Source, K: Sink, L: Ledger>(
     steps: &mut Steps<L>,
 ) -> Status
     ensures leaves { Leaves result (S.left input.old) (S.left input.new) (K.held output.old) (K.held output.new) }
+    ensures bounded { TakesUpToOnePieceMore (S.left input.old) (S.left input.new) }
     ensures usage { (result ≡ Status.Usage) ↔ (¬ (IsReplay words.now)) }
     ensures known { result ≢ Status.Usage → IsReplay words.now }
     ensures read_cause { result ≡ Status.ReadFault → Rose (S.faults input.old) (S.faults input.new) }
@@ -91,6 +96,7 @@ fn is_replay(words: &[Text]) -> bool
 fn read_all<S: Source>(alloc: Global, input: &mut S) -> Result<Text, ReadError>
     ensures taken { IfOk result (λ text. Takes (S.left input.old) text (S.left input.new)) }
     ensures enough { IfOk result (λ text. IsSpent (S.left input.new) ⊎ (16777216 < length text)) }
+    ensures bounded { TakesUpToOnePieceMore (S.left input.old) (S.left input.new) }
     ensures cause { IsErrOf result ReadError.Fault → Rose (S.faults input.old) (S.faults input.new) }
 {
     let mut text = Text::new(alloc);

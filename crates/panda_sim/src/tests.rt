@@ -6,9 +6,9 @@ use pb_words::OutOfMemory;
 use std::process::Abort;
 use std::test::Fail;
 
-/// One tick of latency, and a row that stands before the commands of its tick.
-const LATENCY: &str = "0 C 1 LUT1.INPA=TTLIN1.VAL
-0 C 1 LUT1.FUNC=0x0000FFFF
+/// The script of the README, of 118 bytes.
+const SCRIPT: &[u8] = b"0 C 1 LUT1.INPA=TTLIN1.VAL
+0 C 1 LUT1.FUNC=~A
 10 C 1 TTLIN1.VAL?
 10 S TTLIN1 1
 10 C 1 LUT1.OUT?
@@ -16,7 +16,8 @@ const LATENCY: &str = "0 C 1 LUT1.INPA=TTLIN1.VAL
 11 E
 ";
 
-const LATENCY_OUTPUT: &str = "0 C 1 3
+/// Its output: sections of 11, 11, 15, 15 and 15 bytes.
+const OUTPUT: &[u8] = b"0 C 1 3
 OK
 0 C 1 3
 OK
@@ -28,12 +29,9 @@ OK =1
 OK =0
 ";
 
-/// How a run ended, and what it wrote.
-#[derive(Drop)]
-struct Ran {
-    status: Status,
-    written: Text,
-}
+/// The most bytes that a read gives, the number of the read that fails and of the write that does, how
+/// the run ends, and how many bytes of the output are written.
+type Try = (usize, Option<u64>, Option<u64>, Status, usize);
 
 fn text_of(alloc: Global, bytes: &[u8]) -> Result<Text, OutOfMemory> {
     let mut text = Text::new(alloc);
@@ -41,203 +39,126 @@ fn text_of(alloc: Global, bytes: &[u8]) -> Result<Text, OutOfMemory> {
     Ok(text)
 }
 
+/// How a replay of this script ends, and what it writes.
 fn run_counted<L: Ledger>(
     alloc: Global,
     blank: Blank,
-    words: &[&str],
     script: Text,
     piece: usize,
     fails: (Option<u64>, Option<u64>),
-) -> Result<Ran, OutOfMemory>
+) -> Result<(Status, Text), OutOfMemory>
     requires name { blank.name ≡ L.name }
     requires parts { blank.parts ≡ L.parts }
     requires some { 0 < blank.parts }
     requires piece { 1 ≤ piece }
 {
-    let mut texts = Vec::new(alloc);
-    for word in words {
-        texts.push(text_of(alloc, word.as_bytes())?)?;
-    }
+    let mut words = Vec::new(alloc);
+    words.push(text_of(alloc, b"replay")?)?;
     let mut input = MemSource::new(script, piece, fails.0);
     let mut output = MemSink::new(alloc, 4096, fails.1)?;
     let mut steps: Steps<L> = Steps::new(blank);
-    let status = run(alloc, texts.as_slice(), &mut input, &mut output, &mut steps);
-    let written = text_of(alloc, output.bytes())?;
-    Ok(Ran { status, written })
+    let status = run(alloc, words.as_slice(), &mut input, &mut output, &mut steps);
+    Ok((status, text_of(alloc, output.bytes())?))
 }
 
-/// Runs these words on a script in memory, whose calls that fail are given by number.
-fn run_on(
+fn replayed(
     alloc: Global,
-    words: &[&str],
-    script: &str,
+    script: Text,
     piece: usize,
     fails: (Option<u64>, Option<u64>),
-) -> Result<Ran, OutOfMemory>
+) -> Result<(Status, Text), OutOfMemory>
     requires { 1 ≤ piece }
 {
-    let script = text_of(alloc, script.as_bytes())?;
-    run_counted::<Brand>(alloc, Blank::new(1), words, script, piece, fails)
+    run_counted::<Brand>(alloc, Blank::new(1), script, piece, fails)
 }
 
-#[test]
-fn scripts_give_their_output_in_any_pieces(rt: HostRuntime) -> Result<(), Fail> {
-    let table = [
-        ("0 E\n", ""),
-        (LATENCY, LATENCY_OUTPUT),
-        (
-            "0 C 1 LUT1.INPA=LUT1.OUT\n0 C 1 LUT1.FUNC=0x0000FFFF\n9 C 1 LUT1.OUT?\n10 C 1 LUT1.OUT?\n10 E\n",
-            "0 C 1 3\nOK\n0 C 1 3\nOK\n9 C 1 6\nOK =1\n10 C 1 6\nOK =0\n",
-        ),
-        // a TTL input before and at its row; of two rows of one target at one tick the later one
-        (
-            "4 C 1 TTLIN6.VAL?\n5 S TTLIN6 1\n5 C 1 TTLIN6.VAL?\n7 S TTLIN6 1\n7 S TTLIN6 0\n7 C 1 TTLIN6.VAL?\n7 E\n",
-            "4 C 1 6\nOK =0\n5 C 1 6\nOK =1\n7 C 1 6\nOK =0\n",
-        ),
-        // each refusal, and lines that are skipped
-        (
-            "# refused\n\n0 C 1\n0 C 1 \n0 C 1 LUT9.OUT?\n0 C 1 LUT1.INPA=TTLIN7.VAL\n0 C 1 LUT1.FUNC=0X1\n0 E\n\n#\n",
-            "0 C 1 22\nERR Malformed command\n0 C 1 22\nERR Malformed command\n0 C 1 30\nERR Block number out of range\n0 C 1 18\nERR Unknown label\n0 C 1 20\nERR Malformed value\n",
-        ),
-        // settings and lists of other blocks
-        (
-            "0 C 1 LUT1.FUNC= ~A & B\n0 C 1 LUT1.FUNC?\n0 C 1 CLOCK1.*?\n0 C 1 *ECHO a ?\n0 E\n",
-            "0 C 1 3\nOK\n0 C 1 9\nOK =~A&B\n0 C 1 64\n!ENABLE 0 bit_mux\n!PERIOD 1 time\n!WIDTH 2 time\n!OUT 3 bit_out\n.\n0 C 1 7\nOK =a \n",
-        ),
-        // numbers with leading zeros and a minus zero
-        (
-            "00 S TTLIN1 01\n0001 C 01 TTLIN1.VAL?\n2 S TTLIN1 -0\n2 C 1 TTLIN1.VAL?\n2 E\n",
-            "1 C 1 6\nOK =1\n2 C 1 6\nOK =0\n",
-        ),
-    ];
-    for (script, output) in table {
-        for piece in [1, 7, 65536] {
-            let ran = run_on(rt.alloc(), &["replay"], script, piece, (None, None))?;
-            assert_eq!(rt; ran.status, Status::Ok, "at {script}");
-            assert_eq!(rt; ran.written.bytes(), output.as_bytes(), "at {script}");
-        }
+/// Replays the script of the README once for each row.
+fn ends_as(rt: &impl Abort, alloc: Global, rows: &[Try]) -> Result<(), Fail> {
+    for (piece, read, write, wanted, size) in rows {
+        let piece = (*piece).max(1);
+        let (status, written) = replayed(alloc, text_of(alloc, SCRIPT)?, piece, (*read, *write))?;
+        assert_eq!(rt; status, *wanted);
+        assert_eq!(rt; written.bytes().len(), *size);
+        assert!(rt; OUTPUT.starts_with(written.bytes()));
     }
     Ok(())
 }
 
 #[test]
-fn broken_scripts_are_refused(rt: HostRuntime) -> Result<(), Fail> {
-    let table = [
-        "",
-        "0 E",
-        "0 C 1 TTLIN1.VAL?\n",
-        "1 C 1 TTLIN1.VAL?\n0 E\n",
-        "1 S TTLIN1 1\n0 S TTLIN1 0\n1 E\n",
-        "0 E\n0 E\n",
-        "0 E\n0 C 1 TTLIN1.VAL?\n",
-        "0 E\n#",
-        "0 E \n",
-        " 0 E\n",
-        "0  E\n",
-        "0 e\n",
-        "-0 E\n",
-        "x E\n",
-        "4611686018427387904 E\n",
-        "0 C 2 TTLIN1.VAL?\n0 E\n",
-        "0 C\n0 E\n",
-        "0 C 1x\n0 E\n",
-        "0 X 1\n0 E\n",
-        "0 S TTLIN0 1\n0 E\n",
-        "0 S TTLIN7 1\n0 E\n",
-        "0 S INENC1 1\n0 E\n",
-        "0 S TTLIN1 2\n0 E\n",
-        "0 S TTLIN1 -1\n0 E\n",
-        "0 S TTLIN1 \n0 E\n",
-        "0 S TTLIN1\n0 E\n",
-        "0 S TTLIN1 1 \n0 E\n",
-    ];
-    for script in table {
-        let ran = run_on(rt.alloc(), &["replay"], script, 65536, (None, None))?;
-        assert_eq!(rt; ran.status, Status::Script, "at {script}");
-        assert_eq!(rt; ran.written.bytes().len(), 0, "at {script}");
-    }
-    Ok(())
+fn a_script_is_read_in_any_pieces(rt: HostRuntime) -> Result<(), Fail> {
+    ends_as(
+        &rt,
+        rt.alloc(),
+        &[
+            (1, None, None, Status::Ok, 67),
+            (7, None, None, Status::Ok, 67),
+            (65536, None, None, Status::Ok, 67),
+        ],
+    )
 }
 
-#[test]
-fn other_words_are_a_wrong_use(rt: HostRuntime) -> Result<(), Fail> {
-    let table: [&[&str]; 5] = [&[], &["replay", "x"], &["REPLAY"], &["make"], &[""]];
-    for words in table {
-        let ran = run_on(rt.alloc(), words, "0 E\n", 7, (Some(1), Some(1)))?;
-        assert_eq!(rt; ran.status, Status::Usage);
-        assert_eq!(rt; ran.written.bytes().len(), 0);
-    }
-    Ok(())
-}
-
+// 118 bytes in pieces of 16 are eight reads, and the ninth finds the end.
 #[test]
 fn a_read_that_fails_writes_nothing(rt: HostRuntime) -> Result<(), Fail> {
-    let mut failed = 0u64;
-    for k in 1..40 {
-        let ran = run_on(rt.alloc(), &["replay"], LATENCY, 16, (Some(k), None))?;
-        if ran.status == Status::Ok {
-            assert_eq!(rt; ran.written.bytes(), LATENCY_OUTPUT.as_bytes());
-            break;
-        }
-        assert_eq!(rt; ran.status, Status::ReadFault);
-        assert_eq!(rt; ran.written.bytes().len(), 0);
-        failed = k;
-    }
-    // 120 bytes in pieces of 16, and the read that finds the end
-    assert_eq!(rt; failed, 9);
-    Ok(())
+    ends_as(
+        &rt,
+        rt.alloc(),
+        &[
+            (16, Some(1), None, Status::ReadFault, 0),
+            (16, Some(2), None, Status::ReadFault, 0),
+            (16, Some(8), None, Status::ReadFault, 0),
+            (16, Some(9), None, Status::ReadFault, 0),
+            (16, Some(10), None, Status::Ok, 67),
+        ],
+    )
 }
 
+// One write for each of the five sections.
 #[test]
 fn a_write_that_fails_leaves_a_front(rt: HostRuntime) -> Result<(), Fail> {
-    let mut failed = 0u64;
-    for k in 1..40 {
-        let ran = run_on(rt.alloc(), &["replay"], LATENCY, 16, (None, Some(k)))?;
-        if ran.status == Status::Ok {
-            assert_eq!(rt; ran.written.bytes(), LATENCY_OUTPUT.as_bytes());
-            break;
-        }
-        assert_eq!(rt; ran.status, Status::WriteFault);
-        assert!(rt; LATENCY_OUTPUT.as_bytes().starts_with(ran.written.bytes()));
-        assert!(rt; ran.written.bytes().len() < LATENCY_OUTPUT.len());
-        failed = k;
-    }
-    // one write for each of the five answers
-    assert_eq!(rt; failed, 5);
-    Ok(())
+    ends_as(
+        &rt,
+        rt.alloc(),
+        &[
+            (16, None, Some(1), Status::WriteFault, 0),
+            (16, None, Some(2), Status::WriteFault, 11),
+            (16, None, Some(3), Status::WriteFault, 22),
+            (16, None, Some(4), Status::WriteFault, 37),
+            (16, None, Some(5), Status::WriteFault, 52),
+            (16, None, Some(6), Status::Ok, 67),
+        ],
+    )
 }
 
-/// A script of so many bytes, most of them a comment.
-fn long_script(alloc: Global, size: usize) -> Result<Text, OutOfMemory>
-    requires { 6 ≤ size }
-{
-    let mut text = text_of(alloc, b"0 E\n#")?;
-    let fill = size - 6;
-    for _block in 0..fill / 1024 {
-        text.append([b'x'; 1024].as_slice())?;
+/// The end line and empty lines, of 1 KiB and so many further ones.
+fn long_script(alloc: Global, more: usize) -> Result<Text, OutOfMemory> {
+    let blank = [b'\n'; 1024];
+    let mut text = text_of(alloc, b"0 E\n")?;
+    text.append(&blank[..1020])?;
+    for _block in 0..more {
+        text.append(&blank)?;
     }
-    for _byte in 0..fill % 1024 {
-        text.append(b"x")?;
-    }
-    text.append(b"\n")?;
     Ok(text)
 }
 
+// A read takes at most 16 KiB. So 16 MiB are 1,024 reads, and the next one finds the end or takes the
+// last piece, after which none is made: a later one that would fail isn't noticed. In pieces of 7 bytes
+// the first byte beyond 16 MiB comes with read 2,396,746.
 #[test]
-fn a_script_has_at_most_16_mib(rt: HostRuntime) -> Result<(), Fail> {
-    for (size, status) in [(16_777_216, Status::Ok), (16_777_217, Status::Script)] {
-        let script = long_script(rt.alloc(), size)?;
-        assert_eq!(rt; script.bytes().len(), size);
-        let ran = run_counted::<Brand>(
-            rt.alloc(),
-            Blank::new(1),
-            &["replay"],
-            script,
-            65536,
-            (None, None),
-        )?;
-        assert_eq!(rt; ran.status, status);
-        assert_eq!(rt; ran.written.bytes().len(), 0);
+fn no_read_is_made_beyond_16_mib(rt: HostRuntime) -> Result<(), Fail> {
+    let table = [
+        (16_383, 65_536, 1_025, Status::ReadFault),
+        (16_383, 65_536, 1_026, Status::Ok),
+        (16_500, 65_536, 1_025, Status::ReadFault),
+        (16_500, 65_536, 1_026, Status::Script),
+        (16_500, 7, 2_396_746, Status::ReadFault),
+        (16_500, 7, 2_396_747, Status::Script),
+    ];
+    for (more, piece, read, wanted) in table {
+        let script = long_script(rt.alloc(), more)?;
+        let (status, written) = replayed(rt.alloc(), script, piece, (Some(read), None))?;
+        assert_eq!(rt; status, wanted);
+        assert_eq!(rt; written.bytes().len(), 0);
     }
     Ok(())
 }

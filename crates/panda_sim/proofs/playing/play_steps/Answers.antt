@@ -1,5 +1,5 @@
 use Rattle.std.proofs.Common.{refl, arith}
-use Rattle.panda_sim.specs.Draft.{step_events}
+use Rattle.panda_sim.specs.KeptScript.{step_events}
 use Rattle.panda_sim.proofs.PlayedSoFar.{played_step, played_break, rose_later}
 use Rattle.panda_sim.proofs.playing.play_steps.Goals as goal
 

@@ -1,7 +1,7 @@
 use Rattle.std.proofs.Common.{◌≤◌, drop}
 use Rattle.std.specs.List.{flat_map}
 use Rattle.panda_sim.specs.Output.{sections}
-use Rattle.panda_sim.specs.Draft.{step_events}
+use Rattle.panda_sim.specs.KeptScript.{step_events}
 use Rattle.panda_sim.proofs.PlayedSoFar.{IsPlayed}
 use Rattle.panda_sim.proofs.playing.play_steps.Given as goal
 
