@@ -7,10 +7,9 @@ use Rattle.pb_fields.specs.Labels.{bit_names}
 use Rattle.pb_fields.specs.Entries.{bit_entries}
 use Rattle.pb_fields.specs.Spelled.{spelled}
 use Rattle.pb_config.specs.Assigning.{raw_given}
-use Rattle.pb_core.specs.Queries.{query_reply}
-use Rattle.pb_core.specs.Assignments.{assignment}
+use Rattle.pb_core.specs.Naming.{named_by}
 use Rattle.panda_sim.proofs.examples.worked_scripts.Goals as goal
 
 pub returns : goal.returns
-unfolding digits command_of said_in names_in is_target function_of expression_of tree_at catalogue bit_names bit_entries spelled raw_given query_reply assignment
+unfolding digits command_of said_in names_in is_target function_of expression_of tree_at catalogue bit_names bit_entries spelled raw_given named_by
 returns c = record { empty = refl; latency = refl; toggling = refl; refused = refl }
