@@ -6,3 +6,4 @@ pub mod Mapped
 pub mod StimulusLemmas
 pub mod NamingLemmas
 pub mod LutLemmas
+pub mod ReachedLemmas

@@ -4,19 +4,22 @@ ghost use Rattle.pb_words.specs.declared.Refusal.TheVariants as refusals;
 ghost use Rattle.pb_lut.specs.Expressions.{Tree, ors, Inputs, value, number};
 ghost use Rattle.pb_fields.specs.declared.Slot.{Slot};
 ghost use Rattle.pb_config.specs.Assigning.{raw_given};
+ghost use Rattle.pb_config.specs.Reached.{IsReached};
 ghost use Rattle.pb_config.specs.Showing.{is_readable};
 ghost use Rattle.pb_replies.specs.Lists.{labels_at};
 ghost use Rattle.pb_core.specs.declared.boxes.LutSettings.{LutSettings};
 ghost use Rattle.pb_core.specs.declared.targets.Named.{Named};
 ghost use Rattle.pb_core.specs.declared.targets.Named.TheVariants as names;
 ghost use Rattle.pb_core.specs.declared.events.Answer.TheVariants as answers;
+ghost use Rattle.pb_core.specs.declared.events.Event.{Event};
 ghost use Rattle.pb_core.specs.declared.events.Event.TheVariants as events;
+ghost use Rattle.pb_core.specs.declared.stimuli.Row.{Row};
 ghost use Rattle.pb_core.specs.Tick.{lut_next};
-ghost use Rattle.pb_core.specs.Core.{CoreState};
+ghost use Rattle.pb_core.specs.Core.{CoreState, opening};
 ghost use Rattle.pb_core.specs.Naming.{named_by};
 ghost use Rattle.pb_core.specs.Queries.{query_reply};
 ghost use Rattle.pb_core.specs.Assignments.{assignment, takes_value};
-ghost use Rattle.pb_core.specs.Answer.{answer, after};
+ghost use Rattle.pb_core.specs.Answer.{answer, after, after_all};
 
 /// A line that is refused leaves the core as it was, and so does one that is answered by a reply.
 pub fn only_done_lines_change_the_core()
@@ -55,6 +58,12 @@ pub fn unknown_star_targets_are_no_fields()
         → ((target : List ℕ) → name ≢ codes "ENUMS." ++ target)
         → (query_reply core (codes "*" ++ name) ≡ Err refusals.NoSuchField)
         × (assignment core (codes "*" ++ name) value ≡ Err refusals.NoSuchField) }
+{}
+
+/// In every core that events reach the settings are such as assignments reach, so the laws of pb_config
+/// hold of them.
+pub fn settings_are_reached()
+    ensures { (rows : List Row) (happened : List Event) → IsReached (after_all (opening rows) happened).settings }
 {}
 
 /// A LUT whose function is the number of an expression puts out, one tick later, the expression's value

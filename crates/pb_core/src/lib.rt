@@ -25,6 +25,6 @@ pub use examples::{
 };
 pub use laws::{
     luts_follow_their_expressions, only_done_lines_change_the_core, refusals_come_in_order,
-    unknown_star_targets_are_no_fields,
+    settings_are_reached, unknown_star_targets_are_no_fields,
 };
 pub use stimuli::{Row, Stimulus};

@@ -12,7 +12,8 @@ use crate::cores::Core;
 use crate::events::Answer;
 use pb_config::field_slot;
 use pb_fields::{
-    Attribute, FieldKind, FieldType, Slot, attribute, bit_raw, field_type, int_raw, kind, output_entry, show,
+    Attribute, FieldKind, FieldType, Slot, attribute, bit_raw, field_type, int_raw, kind,
+    output_entry, show,
 };
 use pb_names::{pcap, position_bus};
 use pb_replies::{empty_reply, labels_reply, row_reply, value_reply, word_reply};

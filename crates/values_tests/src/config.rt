@@ -63,10 +63,21 @@ fn settings_take_values_and_print_them(rt: HostRuntime) -> Result<(), Fail> {
     assert_eq!(rt; config.assign(raw, b"0x1"), Err(Refusal::NotWriteable));
     prints(&rt, &config, raw, "0x0000FF00");
     assert_eq!(rt; field_slot(raw), slot);
-    prints(&rt, &config, slot_of(&catalog, "SRGATE1.FORCE_SET")?, "ERR Not readable\n");
+    prints(
+        &rt,
+        &config,
+        slot_of(&catalog, "SRGATE1.FORCE_SET")?,
+        "ERR Not readable\n",
+    );
     let scale = slot_of(&catalog, "INENC1.VAL.SCALE")?;
     assert_eq!(rt; config.assign(scale, b"-.5"), Ok(None));
-    prints_scaled(&rt, &config, slot_of(&catalog, "INENC1.VAL.SCALED")?, 3, "-1.5");
+    prints_scaled(
+        &rt,
+        &config,
+        slot_of(&catalog, "INENC1.VAL.SCALED")?,
+        3,
+        "-1.5",
+    );
     Ok(())
 }
 

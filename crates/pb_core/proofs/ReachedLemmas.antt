@@ -1,0 +1,116 @@
+-- The settings of a core that events reach.
+use Rattle.std.proofs.Common.{◌≡◌, ℕ, Bool, true, false, List, [], ◌∷◌, codes, Option, Some, None, Result, Ok, Err, IfOk, if◌then◌else◌, refl, subst}
+use Rattle.std.specs.Option.{option_map_or}
+use Rattle.pb_words.specs.declared.Refusal.{Refusal}
+use Rattle.pb_words.specs.declared.Refusal.TheVariants as refusals
+use Rattle.pb_words.specs.Refusing.{result_then, result_map}
+use Rattle.pb_fields.specs.declared.Slot.{Slot}
+use Rattle.pb_fields.specs.Slots.{IsSlot}
+use Rattle.pb_fields.specs.Finding.{found_of, block_found}
+use Rattle.pb_fields.proofs.NamedLemmas.{found_of-named}
+use Rattle.pb_grammar.specs.Grammar.{Said, Query, Assign, Echo, Bad, command_of, after_front, before_end}
+use Rattle.pb_config.specs.Assigning.{raw_given, after_by}
+use Rattle.pb_config.specs.Reached.{IsReached, at_first, by_assignment}
+use Rattle.pb_core.specs.declared.stimuli.Row.{Row}
+use Rattle.pb_core.specs.declared.targets.Named.{Named}
+use Rattle.pb_core.specs.declared.targets.Named.TheVariants as names
+use Rattle.pb_core.specs.declared.events.Event.{Event}
+use Rattle.pb_core.specs.declared.events.Event.TheVariants as events
+use Rattle.pb_core.specs.Core.{CoreState, opening}
+use Rattle.pb_core.specs.Naming.{is_same, has_point, labels_named, star_named, listing_named, block_named, named_by}
+use Rattle.pb_core.specs.Assignments.{with_raw, named_assigned}
+use Rattle.pb_core.specs.Answer.{left_by, said_after, after, after_all}
+
+-- where a value is named, it is a slot
+
+IsSlotThere : Named → Type 0
+IsSlotThere (names.Value slot) = IsSlot slot
+IsSlotThere _ = Unit {0}
+
+IsFound : Result Named Refusal → Type 0
+IsFound r = IfOk r IsSlotThere
+
+either : (b : Bool) (x y : Result Named Refusal) → IsFound x → IsFound y → IsFound (if b then x else y)
+either true x y h k = h
+either false x y h k = k
+
+labels_found : (r : Result Slot Refusal) → IsFound (result_map names.Labels r)
+unfolding IsFound IsSlotThere
+labels_found (Ok slot) = tt
+labels_found (Err refusal) = tt
+
+attributes_found : (r : Result Slot Refusal) → IsFound (result_map names.Attributes r)
+unfolding IsFound IsSlotThere
+attributes_found (Ok slot) = tt
+attributes_found (Err refusal) = tt
+
+fields_found : (r : Result ℕ Refusal) → IsFound (result_map names.Fields r)
+unfolding IsFound IsSlotThere
+fields_found (Ok block) = tt
+fields_found (Err refusal) = tt
+
+value_found : (r : Result Slot Refusal) → ((slot : Slot) → r ≡ Ok slot → IsSlot slot) → IsFound (result_map names.Value r)
+unfolding IsFound IsSlotThere
+value_found (Ok slot) h = h slot refl
+value_found (Err refusal) h = tt
+
+refused : (refusal : Refusal) → IsFound (Err refusal)
+unfolding IsFound
+refused refusal = tt
+
+known : (named : Named) → IsSlotThere named → IsFound (Ok named)
+unfolding IsFound
+known named h = h
+
+labelled_found : (rest : Option (List ℕ)) → IsFound (option_map_or labels_named rest (Err refusals.NoSuchField))
+labelled_found None = refused refusals.NoSuchField
+labelled_found (Some target) =
+    either (has_point target) _ _ (labels_found (found_of target)) (refused refusals.NoSuchField)
+
+star_found : (name : List ℕ) → IsFound (star_named name)
+unfolding IsSlotThere
+star_found name =
+    either (is_same name (codes "IDN")) _ _ (known names.Identity tt)
+    (either (is_same name (codes "BLOCKS")) _ _ (known names.Blocks tt)
+    (either (is_same name (codes "POSITIONS")) _ _ (known names.Positions tt)
+    (labelled_found (after_front (codes "ENUMS.") name))))
+
+listing_found : (target : List ℕ) (front : Option (List ℕ)) → IsFound (option_map_or listing_named front (result_map names.Value (found_of target)))
+listing_found target None = value_found (found_of target) (λ slot e. (found_of-named target slot e).0)
+listing_found target (Some front) =
+    either (has_point front) _ _ (attributes_found (found_of front)) (fields_found (block_found front))
+
+found_by : (target : List ℕ) (name : Option (List ℕ)) → IsFound (option_map_or star_named name (block_named target))
+found_by target None = listing_found target (before_end (codes ".*") target)
+found_by target (Some name) = star_found name
+
+-- what an event leaves
+
+slot_left : (core : CoreState) (slot : Slot) (text : List ℕ) (r : Result ℕ Refusal) → after_by core.settings slot text r ≡ (left_by core (result_map (with_raw core slot text) r)).settings
+slot_left core slot text (Ok raw) = refl
+slot_left core slot text (Err refusal) = refl
+
+left : (core : CoreState) (text : List ℕ) (r : Result Named Refusal) → IsFound r → IsReached core.settings → IsReached (left_by core (result_then r (named_assigned core text))).settings
+unfolding IsFound IsSlotThere
+left core text (Err refusal) f h = h
+left core text (Ok (names.Value slot)) f h =
+    subst IsReached (slot_left core slot text (raw_given core.settings slot text)) (by_assignment core.settings slot text f h)
+left core text (Ok named) f h = h
+
+said_left : (core : CoreState) (said : Said) → IsReached core.settings → IsReached (said_after core said).settings
+unfolding named_by
+said_left core (Query target) h = h
+said_left core (Assign target value) h = left core value (named_by target) (found_by target (after_front (codes "*") target)) h
+said_left core (Echo text) h = h
+said_left core (Bad refusal) h = h
+
+event_left : (core : CoreState) (event : Event) → IsReached core.settings → IsReached (after core event).settings
+event_left core (events.Line id text) h = said_left core (command_of text) h
+event_left core (events.Advance to) h = h
+
+all_left : (core : CoreState) (happened : List Event) → IsReached core.settings → IsReached (after_all core happened).settings
+all_left core [] h = h
+all_left core (event ∷ rest) h = all_left (after core event) rest (event_left core event h)
+
+pub settings_reached : (rows : List Row) (happened : List Event) → IsReached (after_all (opening rows) happened).settings
+settings_reached rows happened = all_left (opening rows) happened at_first
