@@ -1,4 +1,4 @@
-ghost use Rattle.std.specs.Prelude.{◌≡◌, ◌<◌};
+ghost use Rattle.std.specs.Prelude.{◌≡◌, ◌<◌, IfOk};
 ghost use Rattle.pb_core.specs.Answer.{CanHappen};
 
 use pb_core::{Answer, Core, Event, Stimulus};
@@ -54,7 +54,9 @@ fn go<L: Ledger>(
 }
 
 /// A line of session 1.
-fn line(alloc: Global, bytes: &[u8]) -> Result<Event, Fail> {
+fn line(alloc: Global, bytes: &[u8]) -> Result<Event, Fail>
+    ensures { IfOk result CanHappen }
+{
     let mut text = Text::new(alloc);
     if text.append(bytes).is_err() {
         text.append(bytes)?;

@@ -2,7 +2,7 @@
 -- the blocks of the catalogue.
 use Rattle.std.specs.Prelude.{zero, suc, ◌≡◌, ◌⊎◌, ℕ, ◌+◌, ◌<◌, List, [], ◌∷◌, length, Option, Some, None, if◌then◌else◌, nat_lt, map}
 use Rattle.std.specs.List.{flat_map, range_with_len}
-use Rattle.pb_names.specs.declared.TheConstants.{ITSELF}
+use Rattle.pb_names.specs.declared.TheConstants.{BLOCKS, ITSELF}
 use Rattle.pb_names.specs.declared.ttlin.TheConstants as ttlin
 use Rattle.pb_fields.specs.declared.slots.Slot.{Slot}
 use Rattle.pb_fields.specs.Types.{attributes_of}
@@ -25,7 +25,7 @@ next_slot slot =
     Some (slot_at slot.block slot.instance (slot.field + 1) ITSELF)
     else (if nat_lt slot.instance (count_of slot.block) then
     Some (slot_at slot.block (slot.instance + 1) 0 ITSELF)
-    else (if nat_lt (slot.block + 1) 12 then Some (slot_at (slot.block + 1) 1 0 ITSELF) else None)))
+    else (if nat_lt (slot.block + 1) BLOCKS then Some (slot_at (slot.block + 1) 1 0 ITSELF) else None)))
 
 -- the slot that follows: the first after none
 abbrev pub following_of : Option Slot → Option Slot
@@ -43,7 +43,7 @@ abbrev pub slots_of_block : ℕ → List Slot
 slots_of_block b = flat_map (slots_of_instance b) (range_with_len 1 (count_of b))
 
 unfoldable pub slots : List Slot
-slots = flat_map slots_of_block (range_with_len 0 12)
+slots = flat_map slots_of_block (range_with_len 0 BLOCKS)
 
 -- a slot and those that follow it, so many of them at most
 abbrev pub visits : ℕ → Option Slot → List Slot

@@ -1,6 +1,6 @@
 -- The slots of the catalogue, and what each of them is.
 use Rattle.std.specs.Prelude.{ℕ, ◌-◌, ◌<◌, ◌≤◌, ◌==◌, List, length, slice_index_or, Option, Some, None, if◌then◌else◌}
-use Rattle.pb_names.specs.declared.TheConstants.{ITSELF}
+use Rattle.pb_names.specs.declared.TheConstants.{BLOCKS, ITSELF}
 use Rattle.pb_fields.specs.declared.slots.Slot.{Slot}
 use Rattle.pb_fields.specs.declared.kinds.FieldKind.{FieldKind}
 use Rattle.pb_fields.specs.declared.roles.Role.{Role}
@@ -22,7 +22,7 @@ attributes_at slot = attributes_of (type_at slot)
 
 -- the slot is in the catalogue
 pub record IsSlot (slot : Slot) : Type 0 where
-  pub in_blocks : slot.block < 12
+  pub in_blocks : slot.block < BLOCKS
   pub from_one : 1 ≤ slot.instance
   pub in_count : slot.instance ≤ count_of slot.block
   pub in_fields : slot.field < length (fields_of slot.block)

@@ -6,7 +6,7 @@ ghost use Rattle.pb_fields.specs.Slots.{IsSlot};
 use crate::slots::{Slot, field_type, instances};
 use crate::tables::block_at;
 use crate::types::attributes;
-use pb_names::{ITSELF, pcap, ttlin};
+use pb_names::{BLOCKS, ITSELF, ttlin};
 
 /// The slot after that one in the order of the catalogue; the first for none. A field's attributes
 /// follow the field.
@@ -50,7 +50,7 @@ fn next_slot(slot: Slot) -> Option<Slot>
             attr: ITSELF,
             ..slot
         })
-    } else if slot.block < pcap::BLOCK {
+    } else if slot.block + 1 < BLOCKS {
         Some(Slot {
             block: slot.block + 1,
             instance: 1,

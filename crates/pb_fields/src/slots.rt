@@ -1,4 +1,5 @@
 ghost use Rattle.std.specs.Prelude.{◌≡◌, ◌<◌, ◌≤◌, ◌++◌, length, drop};
+ghost use Rattle.pb_names.specs.declared.TheConstants.{BLOCKS};
 ghost use Rattle.pb_fields.specs.Places.{block_of, count_of, field_of, fields_of};
 ghost use Rattle.pb_fields.specs.Slots.{IsSlot, kind_of, role_at, type_at, attribute_at, default_of};
 
@@ -8,7 +9,7 @@ use crate::tables::{block_at, field_at};
 use crate::types::{
     Attribute, FieldType, attribute_default, attribute_kind, attributes, field_kind, field_role,
 };
-use pb_names::{ITSELF, pcap};
+use pb_names::{BLOCKS, ITSELF};
 use pb_words::put_front;
 
 /// One field or one attribute of the catalogue.
@@ -26,7 +27,7 @@ pub struct Slot {
 
 /// Writes the block's name without a number at the front of `out`, and answers its length.
 pub fn block_name(block: u8, out: &mut [u8]) -> usize
-    requires block { block < 12 }
+    requires block { block < BLOCKS }
     requires room { 64 ≤ length out.old }
     ensures len { result ≡ length (block_of block).name }
     ensures written { out.new ≡ (block_of block).name ++ drop (length (block_of block).name) out.old }
@@ -36,7 +37,7 @@ pub fn block_name(block: u8, out: &mut [u8]) -> usize
 
 /// How many instances of the block there are.
 pub fn instances(block: u8) -> u8
-    requires { block < 12 }
+    requires { block < BLOCKS }
     ensures { result ≡ count_of block }
 {
     block_at(block).1
@@ -44,7 +45,7 @@ pub fn instances(block: u8) -> u8
 
 /// How many fields the block has.
 pub fn field_count(block: u8) -> u8
-    requires { block < 12 }
+    requires { block < BLOCKS }
     ensures { result ≡ length (fields_of block) }
 {
     block_at(block).2.len() as u8
@@ -106,7 +107,7 @@ pub fn attribute(slot: Slot) -> Option<Attribute>
 pub fn default_value(slot: Slot) -> u64
     ensures { result ≡ default_of slot }
 {
-    if slot.block > pcap::BLOCK || slot.field >= field_count(slot.block) {
+    if slot.block >= BLOCKS || slot.field >= field_count(slot.block) {
         return 0;
     }
     let field = field_at(slot.block, slot.field);

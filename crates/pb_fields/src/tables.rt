@@ -1,4 +1,5 @@
 ghost use Rattle.std.specs.Prelude.{◌≡◌, ◌<◌, ◌≤◌, length, map};
+ghost use Rattle.pb_names.specs.declared.TheConstants.{BLOCKS};
 ghost use Rattle.pb_fields.specs.Catalogue.{catalogue};
 ghost use Rattle.pb_fields.specs.Places.{block_of, count_of, fields_of, field_of, type_of};
 ghost use Rattle.pb_fields.specs.Rows.{block_row, field_row};
@@ -213,7 +214,7 @@ const PCAP: [Field; 13] = [
     Field(b"ACTIVE", FieldType::BitOut, 0),
 ];
 
-static BLOCKS: [Block; 12] = [
+static CATALOGUE: [Block; 12] = [
     Block(b"TTLIN", 6, &TTLIN),
     Block(b"INENC", 4, &INENC),
     Block(b"BITS", 1, &BITS),
@@ -230,7 +231,7 @@ static BLOCKS: [Block; 12] = [
 
 /// The row of that block.
 pub(crate) fn block_at(block: u8) -> Block
-    requires { block < 12 }
+    requires { block < BLOCKS }
     ensures row { block_row result ≡ block_of block }
     ensures name { result.0.now ≡ (block_of block).name }
     ensures short { length result.0.now ≤ 7 }
@@ -244,7 +245,7 @@ pub(crate) fn block_at(block: u8) -> Block
 
 /// The row of that field.
 pub(crate) fn field_at(block: u8, field: u8) -> Field
-    requires block { block < 12 }
+    requires block { block < BLOCKS }
     requires field { field < length (fields_of block) }
     ensures row { field_row result ≡ field_of block field }
     ensures name { result.0.now ≡ (field_of block field).name }
@@ -259,7 +260,7 @@ pub(crate) fn field_at(block: u8, field: u8) -> Field
 #[tactic(auto, unfolding(crate::specs::Catalogue::catalogue))]
 pub(crate) fn blocks() -> &'static [Block]
     ensures rows { map block_row result.now ≡ catalogue }
-    ensures len { length result.now ≡ 12 }
+    ensures len { length result.now ≡ BLOCKS }
 {
-    &BLOCKS
+    &CATALOGUE
 }

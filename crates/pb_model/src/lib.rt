@@ -5,6 +5,3 @@
 mod changes;
 
 pub use changes::{Change, is_taken_role};
-
-#[cfg(test)]
-mod tests;

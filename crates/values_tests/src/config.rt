@@ -1,6 +1,6 @@
-ghost use Rattle.std.specs.Prelude.{IfOk};
 ghost use Rattle.pb_fields.specs.Slots.{IsSlot};
 
+use crate::fields::slot_of;
 use pb_config::{Config, field_slot, has_line};
 use pb_fields::{Attribute, Catalog, Slot, attribute, following};
 use pb_model::Change;
@@ -15,13 +15,6 @@ fn fresh(alloc: Global) -> Result<Config, Fail> {
         return Ok(config);
     }
     Ok(Config::new(alloc)?)
-}
-
-fn slot_of(catalog: &Catalog, target: &str) -> Result<Slot, Fail>
-    ensures { IfOk result (λ slot. IsSlot slot) }
-{
-    let slot = catalog.find(target.as_bytes()).ok().ok_or("no such slot")?;
-    Ok(slot)
 }
 
 /// What is printed of the slot is the text, or the line of its refusal.

@@ -4,3 +4,7 @@
 
 #[cfg(test)]
 mod config;
+#[cfg(test)]
+mod fields;
+#[cfg(test)]
+mod replies;
