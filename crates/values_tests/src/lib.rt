@@ -7,4 +7,12 @@ mod config;
 #[cfg(test)]
 mod fields;
 #[cfg(test)]
+mod grammar;
+#[cfg(test)]
+mod lut;
+#[cfg(test)]
+mod ports;
+#[cfg(test)]
 mod replies;
+#[cfg(test)]
+mod words;
