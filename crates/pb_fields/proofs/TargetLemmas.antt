@@ -6,9 +6,6 @@ use Rattle.std.specs.Char.{is_ascii_digit}
 use Rattle.std.proofs.lemmas.Bool.{eqb-true, ne_eqb, le-leb, lt-ltb, le-ltb}
 use Rattle.std.proofs.Math.Seq.{take-append_seam, drop-append_seam, drop-append-add, take-length}
 use Rattle.pb_fields.specs.declared.types.FieldType.TheVariants as types
-use Rattle.pb_fields.specs.declared.types.Attribute.{Attribute}
-use Rattle.pb_fields.specs.declared.types.Attribute.TheVariants as attributes
-use Rattle.pb_fields.specs.Types.{attribute_text}
 use Rattle.pb_fields.specs.Catalogue.{block, field, catalogue}
 use Rattle.pb_fields.specs.Places.{block_of, count_of, fields_of, field_of}
 use Rattle.pb_fields.specs.Names.{number_text}

@@ -257,7 +257,6 @@ pub(crate) fn field_at(block: u8, field: u8) -> Field
 }
 
 /// The blocks in their order.
-#[tactic(auto, unfolding(crate::specs::Catalogue::catalogue))]
 pub(crate) fn blocks() -> &'static [Block]
     ensures rows { map block_row result.now ≡ catalogue }
     ensures len { length result.now ≡ BLOCKS }
