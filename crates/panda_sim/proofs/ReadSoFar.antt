@@ -7,7 +7,7 @@ use Rattle.pb_core.specs.declared.Row.{Row}
 use Rattle.pb_core.specs.Stimulus.{last_tick}
 use Rattle.pb_core.specs.declared.Event.{Event}
 use Rattle.pb_grammar.specs.Grammar.{IsText}
-use Rattle.panda_sim.specs.Script.{Line, Deed, Skipped, Timed, Level, Command, End, IsLine, Spells, Ordered, IsScript, is_end}
+use Rattle.panda_sim.specs.Script.{Line, Deed, Skipped, Timed, Level, Command, End, IsLine, WritesLines, Ordered, IsScript, is_end}
 use Rattle.panda_sim.specs.Output.{rows_of, events_of}
 use Rattle.panda_sim.proofs.Unique.{one_line, one_reading, no_newline}
 
@@ -15,18 +15,18 @@ use Rattle.panda_sim.proofs.Unique.{one_line, one_reading, no_newline}
 -- lines that the rest spells go on from here, and there are no other scripts.
 pub record IsRead (text rest : List ℕ) (ended : Bool) (last : ℕ) (rows : List Row) (events : List Event) : Type 0 where
   pub done : List Line
-  pub front : (lines : List Line) → Spells rest lines → Spells text (done ++ lines)
+  pub front : (lines : List Line) → WritesLines rest lines → WritesLines text (done ++ lines)
   pub order : (lines : List Line) → Ordered ended last lines → Ordered false 0 (done ++ lines)
-  pub only : (all : List Line) → Spells text all → Ordered false 0 all → (lines : List Line) × Spells rest lines × Ordered ended last lines
+  pub only : (all : List Line) → WritesLines text all → Ordered false 0 all → (lines : List Line) × WritesLines rest lines × Ordered ended last lines
   pub rows_are : flat_map rows_of done ≡ rows
   pub events_are : flat_map events_of done ≡ events
 
 -- the line where the rest begins
-next_line : (rest line more : List ℕ) (ended : Bool) (last : ℕ) (lines : List Line) → rest ≡ line ++ 10 ∷ more → IsText line → Spells rest lines → (l : Line) × (others : List Line) × (lines ≡ l ∷ others) × IsLine line l × Spells more others
+next_line : (rest line more : List ℕ) (ended : Bool) (last : ℕ) (lines : List Line) → rest ≡ line ++ 10 ∷ more → IsText line → WritesLines rest lines → (l : Line) × (others : List Line) × (lines ≡ l ∷ others) × IsLine line l × WritesLines more others
 next_line rest line more ended last [] e t h = absurd (omega (arith, ap length (sym h ∙ e), length-append line (10 ∷ more)))
 next_line rest line more ended last (l ∷ lines) e t h =
     let cut = one_line h.0 line h.1 more h.2 t (sym h.4 ∙ e) in
-    (l, lines, refl, subst (λ x. IsLine x l) cut.0 h.3, subst (λ x. Spells x lines) cut.1 h.5)
+    (l, lines, refl, subst (λ x. IsLine x l) cut.0 h.3, subst (λ x. WritesLines x lines) cut.1 h.5)
 
 -- what one more line gives comes last
 flat_map_push : {A : Type 0} (f : Line → List A) (ls : List Line) (l : Line) → flat_map f (ls ++ l ∷ []) ≡ flat_map f ls ++ f l
@@ -34,7 +34,7 @@ flat_map_push f [] l = append-nil (f l)
 flat_map_push f (k ∷ ls) l = ap (λ x. f k ++ x) (flat_map_push f ls l) ∙ sym (append_assoc (f k) (flat_map f ls) (f l))
 
 -- lines that the rest spells where it has no newline
-ends_not : (rest : List ℕ) (ended : Bool) (last : ℕ) (lines : List Line) → IsText rest → ¬ ((ended ≡ true) × (rest ≡ [])) → Spells rest lines → ¬ (Ordered ended last lines)
+ends_not : (rest : List ℕ) (ended : Bool) (last : ℕ) (lines : List Line) → IsText rest → ¬ ((ended ≡ true) × (rest ≡ [])) → WritesLines rest lines → ¬ (Ordered ended last lines)
 ends_not rest ended last [] t none h o = none (o, h)
 ends_not rest ended last (l ∷ lines) t none h o = no_newline h.0 h.1 (subst IsText h.4 t)
 
@@ -45,7 +45,7 @@ pub read_more : (text rest line more : List ℕ) (ended after : Bool) (last next
 read_more text rest line more ended after last next rows events l e t is stands back r =
     record {
       done = r.done ++ l ∷ [];
-      front = λ lines h. subst (λ all. Spells text all) (sym (append_assoc r.done (l ∷ []) lines)) (r.front (l ∷ lines) (line, more, t, is, e, h));
+      front = λ lines h. subst (λ all. WritesLines text all) (sym (append_assoc r.done (l ∷ []) lines)) (r.front (l ∷ lines) (line, more, t, is, e, h));
       order = λ lines h. subst (λ all. Ordered false 0 all) (sym (append_assoc r.done (l ∷ []) lines)) (r.order (l ∷ lines) (stands lines h));
       only = λ all h o.
           let found = r.only all h o in
@@ -85,7 +85,7 @@ read_all text rest ended last rows events fits end none r =
       r.done,
       record {
         size = fits;
-        spelled = subst (λ ls. Spells text ls) same (r.front [] none);
+        spelled = subst (λ ls. WritesLines text ls) same (r.front [] none);
         ordered = subst (λ ls. Ordered false 0 ls) same (r.order [] end);
       },
       sym r.rows_are,

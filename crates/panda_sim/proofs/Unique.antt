@@ -5,7 +5,7 @@ use Rattle.std.proofs.lemmas.List.{get_or_at, length-append}
 use Rattle.std.specs.Prelude.{if◌then◌else◌}
 use Rattle.pb_words.specs.Numbers.{IsDigit, IsUint, WritesNumber}
 use Rattle.pb_grammar.specs.Grammar.{IsText}
-use Rattle.panda_sim.specs.Script.{Line, Deed, Skipped, Timed, Level, Command, End, Says, Follows, IsLine, WritesSigned, Spells}
+use Rattle.panda_sim.specs.Script.{Line, Deed, Skipped, Timed, Level, Command, End, Says, Follows, IsLine, WritesSigned, WritesLines}
 use Rattle.pb_words.proofs.CutLemmas.{digits_cut_once}
 use Rattle.panda_sim.proofs.LineLemmas.{says_no_digit, follows_no_digit, timed_parts}
 
@@ -115,12 +115,12 @@ one_reading text (Timed t d) (Timed u e) h k =
     cc
 
 -- the bytes are one list of lines
-pub one_script : (bytes : List ℕ) (ls ms : List Line) → Spells bytes ls → Spells bytes ms → ls ≡ ms
+pub one_script : (bytes : List ℕ) (ls ms : List Line) → WritesLines bytes ls → WritesLines bytes ms → ls ≡ ms
 one_script bytes [] [] h k = refl
 one_script bytes [] (m ∷ ms) h k = absurd (omega (arith, ap length (sym h ∙ k.4), length-append k.0 (10 ∷ k.1)))
 one_script bytes (l ∷ ls) [] h k = absurd (omega (arith, ap length (sym k ∙ h.4), length-append h.0 (10 ∷ h.1)))
 one_script bytes (l ∷ ls) (m ∷ ms) h k =
     let cut = one_line h.0 k.0 h.1 k.1 h.2 k.2 (sym h.4 ∙ k.4) in
     let line : l ≡ m = one_reading k.0 l m (subst (λ t. IsLine t l) cut.0 h.3) k.3 in
-    let others : ls ≡ ms = one_script k.1 ls ms (subst (λ t. Spells t ls) cut.1 h.5) k.5 in
+    let others : ls ≡ ms = one_script k.1 ls ms (subst (λ t. WritesLines t ls) cut.1 h.5) k.5 in
     cc

@@ -51,10 +51,10 @@ IsLine text (Timed tick deed) =
     × (digits : List ℕ) × (rest : List ℕ) × WritesNumber digits tick × Says rest deed × (text ≡ digits ++ rest)
 
 -- the bytes are these lines, each ended by a newline
-abbrev pub Spells : List ℕ → List Line → Type 0
-Spells bytes [] = bytes ≡ []
-Spells bytes (line ∷ lines) =
-    (text : List ℕ) × (rest : List ℕ) × IsText text × IsLine text line × (bytes ≡ text ++ 10 ∷ rest) × Spells rest lines
+abbrev pub WritesLines : List ℕ → List Line → Type 0
+WritesLines bytes [] = bytes ≡ []
+WritesLines bytes (line ∷ lines) =
+    (text : List ℕ) × (rest : List ℕ) × IsText text × IsLine text line × (bytes ≡ text ++ 10 ∷ rest) × WritesLines rest lines
 
 -- the deed is the end
 abbrev pub is_end : Deed → Bool
@@ -72,5 +72,5 @@ Ordered ended tick (Timed next deed ∷ lines) = (ended ≡ false) × (tick ≤ 
 -- the bytes are a script, of at most 16 MiB, and these are its lines
 pub record IsScript (bytes : List ℕ) (lines : List Line) : Type 0 where
   pub size : length bytes ≤ 16777216
-  pub spelled : Spells bytes lines
+  pub spelled : WritesLines bytes lines
   pub ordered : Ordered false 0 lines

@@ -70,12 +70,12 @@ fn read_bit(text: &[u8]) -> Option<i32>
     ensures found { IfSome result (λ value. ((value ≡ pos 0) ⊎ (value ≡ pos 1)) × WritesSigned text.now value) }
     ensures none { IfNone result ((value : ℤ) → (value ≡ pos 0) ⊎ (value ≡ pos 1) → ¬ (WritesSigned text.now value)) }
 {
-    match text {
-        [b'-', digits @ ..] => match read_u32(digits) {
+    match text.strip_prefix(b"-".as_slice()) {
+        Some(digits) => match read_u32(digits) {
             Ok(0) => Some(0),
             _ => None,
         },
-        _ => match read_u32(text) {
+        None => match read_u32(text) {
             Ok(0) => Some(0),
             Ok(1) => Some(1),
             _ => None,
