@@ -3,10 +3,12 @@
 //! block is defined (`specs/Rules.antt`).
 #![tactic(auto)]
 
+mod edges;
 mod emits;
 mod inputs;
 mod machines;
 
+pub use edges::Edge;
 pub use emits::{Condition, Emit, Record};
 pub use inputs::{Inputs, Outputs};
 pub use machines::Machine;
