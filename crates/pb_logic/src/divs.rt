@@ -16,7 +16,7 @@ pub enum FirstPulse {
 /// What commands set of a DIV.
 #[derive(Clone, Copy, Debug, PartialEq, Eq)]
 pub struct DivSettings {
-    /// Every so manieth pulse goes to OUTD. 0 counts as 1.
+    /// Of so many pulses the last goes to OUTD. 0 counts as 1.
     pub divisor: u32,
     pub first_pulse: FirstPulse,
 }
@@ -83,6 +83,20 @@ impl Div {
     }
 }
 
+impl FirstPulse {
+    ghost use Rattle.pb_logic.specs.Div as definition;
+
+    fn new(raw: u64) -> FirstPulse
+        ensures { result ≡ definition.first_pulse_of raw }
+    {
+        if raw == u64::from(first_pulse::OUT_D) {
+            FirstPulse::OutD
+        } else {
+            FirstPulse::OutN
+        }
+    }
+}
+
 impl DivSettings {
     ghost use Rattle.pb_logic.specs.Div as definition;
 
@@ -100,11 +114,24 @@ impl DivRegisters {
     fn count_at(self, settings: &DivSettings, inputs: &Inputs) -> u32
         ensures { result ≡ definition.count_at settings.now self inputs.now }
     {
-        let enable = inputs.bits[div::ENABLE as usize];
+        if !inputs.bits[div::ENABLE as usize] || self.enable_before {
+            return self.count;
+        }
         match settings.first_pulse {
-            FirstPulse::OutN if enable && !self.enable_before => 0,
-            FirstPulse::OutD if enable && !self.enable_before => settings.last_count(),
-            _ => self.count,
+            FirstPulse::OutN => 0,
+            FirstPulse::OutD => settings.last_count(),
+        }
+    }
+
+    /// Nothing goes out.
+    fn silent(self, count: u32) -> DivRegisters
+        ensures { result ≡ definition.silent self count }
+    {
+        DivRegisters {
+            count,
+            outd: false,
+            outn: false,
+            ..self
         }
     }
 
@@ -114,12 +141,7 @@ impl DivRegisters {
     {
         let inp = inputs.bits[div::INP as usize];
         if !inp {
-            DivRegisters {
-                count,
-                outd: false,
-                outn: false,
-                ..self
-            }
+            self.silent(count)
         } else if self.inp_before {
             DivRegisters { count, ..self }
         } else if count >= settings.last_count() {
@@ -146,11 +168,7 @@ impl DivRegisters {
         if inputs.bits[div::ENABLE as usize] {
             self.pulsed(settings, inputs, self.count_at(settings, inputs))
         } else {
-            DivRegisters {
-                outd: false,
-                outn: false,
-                ..self
-            }
+            self.silent(self.count)
         }
     }
 }
@@ -196,18 +214,4 @@ impl Machine for Div {
       outputs = λ seen block. refl;
       records = λ seen inputs tick block. refl;
     } };
-}
-
-impl FirstPulse {
-    ghost use Rattle.pb_logic.specs.Div as definition;
-
-    fn new(raw: u64) -> FirstPulse
-        ensures { result ≡ definition.first_pulse_of raw }
-    {
-        if raw == u64::from(first_pulse::OUT_D) {
-            FirstPulse::OutD
-        } else {
-            FirstPulse::OutN
-        }
-    }
 }

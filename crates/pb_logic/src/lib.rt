@@ -1,5 +1,6 @@
 //! The logic blocks: LUT, SRGATE, DIV, COUNTER and CLOCK. Each has a module in
-//! `specs/` that says what its settings and registers are, and what a tick does.
+//! `specs/` that says what its settings and registers are, what a tick does, and
+//! what commands may set.
 #![tactic(auto)]
 
 mod clocks;
