@@ -2,7 +2,7 @@ use Rattle.std.proofs.Common.{All, subst}
 use Rattle.std.proofs.lemmas.List.{take_all}
 use Rattle.std.proofs.lemmas.List.Elements.{All-more}
 use Rattle.pb_words.specs.Numbers.{IsDigit}
-use Rattle.pb_words.proofs.decimals.cut_digits.Goals as goal
+use Rattle.pb_words.proofs.cuts.cut_digits.Goals as goal
 
 pub loop-i-preserved : goal.loop-i-preserved
 loop-i-preserved c =
