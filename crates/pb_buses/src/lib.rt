@@ -5,10 +5,16 @@
 
 mod edges;
 mod emits;
+mod entries;
 mod inputs;
+mod laws;
 mod machines;
+mod muxes;
 
 pub use edges::Edge;
 pub use emits::{Condition, Emit, Record};
+pub use entries::{Bus, Buses};
 pub use inputs::{Inputs, Outputs};
+pub use laws::{delay_lines_keep_the_past, puts_keep_the_last_changes};
 pub use machines::Machine;
+pub use muxes::Mux;
