@@ -8,6 +8,3 @@ mod targets;
 
 pub use commands::{Command, commands_by_example, commands_have_one_meaning, parse};
 pub use targets::{targets_are_computed, targets_are_read_in_one_way};
-
-#[cfg(test)]
-mod tests;

@@ -4,9 +4,10 @@ use Rattle.std.proofs.lemmas.List.{take_all}
 use Rattle.std.proofs.lemmas.List.Elements.{All-head}
 use Rattle.pb_words.specs.declared.signed.Sign.{Sign}
 use Rattle.pb_words.specs.Numbers.{IsDigit}
-use Rattle.pb_words.specs.Signed.{BeginsNoSign, sign_text}
+use Rattle.pb_words.specs.Signed.{sign_text}
 use Rattle.pb_words.specs.Cuts.{BeginsNoDigit}
-use Rattle.pb_words.specs.Decimals.{Decimal, WritesDecimal, ArePlaces, point_text, places_of}
+use Rattle.pb_words.specs.Decimals.{Decimal, WritesDecimal, point_text, places_of}
+use Rattle.pb_words.specs.Parts.{BeginsNoSign, ArePlaces}
 use Rattle.pb_words.proofs.CutLemmas.{digits_cut_once}
 
 first_and_rest : (xs : List ℕ) → 1 ≤ length xs → get_or xs 0 0 ≡ 46 → xs ≡ 46 ∷ take (length xs - 1) (drop 1 xs)

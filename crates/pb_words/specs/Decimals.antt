@@ -51,20 +51,6 @@ pub record WritesDecimal (text : List ℕ) (d : Decimal) : Type 0 where
   pub grammar : IsDecimal d
   pub printed : text ≡ decimal_text d
 
--- the text is a decimal of this sign with these whole digits and these places
-pub record IsCut (text : List ℕ) (sign : Sign) (whole places : List ℕ) : Type 0 where
-  pub after_point : Option (List ℕ)
-  pub same : places_of after_point ≡ places
-  pub writes : WritesDecimal text (record { sign = sign; whole = whole; after_point = after_point })
-
--- what follows the whole digits is nothing, or a point with these places
-pub record ArePlaces (rest places : List ℕ) : Type 0 where
-  pub after_point : Option (List ℕ)
-  pub same : places_of after_point ≡ places
-  pub printed : rest ≡ point_text after_point
-  pub digits : All IsDigit places
-  pub nine : length places ≤ 9
-
 -- what reading a decimal of at most that many whole digits answers
 abbrev pub ReadsDecimalUpTo : ℕ → List ℕ → Result Decimal9 NumFault → Type 0
 ReadsDecimalUpTo most text (Ok v) =

@@ -3,7 +3,8 @@ ghost use Rattle.std.specs.Fmt.{signed_decimal};
 ghost use Rattle.std.specs.Option.{option_map};
 ghost use Rattle.pb_words.specs.Numbers.{IsDigit, value_of};
 ghost use Rattle.pb_words.specs.Signed.{signed};
-ghost use Rattle.pb_words.specs.Decimals.{ReadsDecimal, ReadsDecimalUpTo, Decimal, WritesDecimal, IsCut, ArePlaces, nine_places, decimal_value, decimal_of, canonical, canonical_size, fraction, places};
+ghost use Rattle.pb_words.specs.Decimals.{ReadsDecimal, ReadsDecimalUpTo, Decimal, WritesDecimal, nine_places, decimal_value, decimal_of, canonical, canonical_size, fraction, places};
+ghost use Rattle.pb_words.specs.Parts.{IsCut, ArePlaces};
 
 use crate::cuts::cut_digits;
 use crate::lines::Line;

@@ -1,6 +1,7 @@
-//! What every crate of panda_sim speaks: growing texts, the numbers of scripts
-//! and control lines in both directions, the refusals with their lines, and a
-//! counter of work that costs nothing at run time.
+//! What every crate of panda_sim speaks: texts that grow, lines on the stack, the
+//! cutting of texts, the numbers of scripts and control lines in both directions,
+//! the refusals with their lines, and a counter of work that costs nothing at run
+//! time.
 #![tactic(auto)]
 
 mod counting;
@@ -34,6 +35,3 @@ pub use signed::{
     signed_decimals_are_read_back, write_i64,
 };
 pub use texts::Text;
-
-#[cfg(test)]
-mod tests;

@@ -5,4 +5,12 @@
 #[cfg(test)]
 mod fields;
 #[cfg(test)]
+mod grammar;
+#[cfg(test)]
+mod lut;
+#[cfg(test)]
+mod ports;
+#[cfg(test)]
 mod replies;
+#[cfg(test)]
+mod words;
