@@ -1,9 +1,14 @@
 ghost use Rattle.std.specs.Prelude.{ℕ, ◌^◌, List, codes, ◌≡◌, ◌<◌, ◌≤◌, ◌↔◌, ◌⊎◌, Ok, Err, IfSome, IfNone};
+ghost use Rattle.pb_names.specs.declared.bit_bus.TheConstants as bit_bus;
+ghost use Rattle.pb_names.specs.declared.position_bus.TheConstants as position_bus;
+ghost use Rattle.pb_names.specs.declared.label_lists.TheConstants as label_lists;
+ghost use Rattle.pb_names.specs.declared.time_units.TheConstants as time_units;
 ghost use Rattle.pb_fields.specs.Values.{Spells, Refuses, shown, IsShownKind, IsSpelledKind, IsRaw, bit_raw, int_raw, tick_size, HasTicks, IsNoTime};
 ghost use Rattle.pb_fields.specs.Spelled.{spelled};
 ghost use Rattle.pb_fields.specs.Types.{ticks_max};
 
 use crate::kinds::FieldKind;
+use pb_names::time_units;
 use pb_words::Refusal;
 
 /// How many billionths of the unit one tick of 8 ns is: the units are s, ms and us.
@@ -14,8 +19,8 @@ pub fn tick_size(units: u8) -> u128
     ensures most { result ≤ 8000000 }
 {
     match units {
-        0 => 8,
-        1 => 8_000,
+        time_units::S => 8,
+        time_units::MS => 8_000,
         _ => 8_000_000,
     }
 }
@@ -87,21 +92,21 @@ pub fn values_are_computed()
 
 /// What a text means as a value, for a few texts.
 pub fn values_by_example()
-    ensures half_up { spelled (FieldKind.Time ticks_max 0) (codes "0.000000004") ≡ Ok 1 }
-    ensures under_half { spelled (FieldKind.Time ticks_max 0) (codes "0.000000003") ≡ Ok 0 }
-    ensures ten_places { spelled (FieldKind.Time ticks_max 0) (codes "0.0000000041") ≡ Err Refusal.MalformedValue }
-    ensures below_zero { spelled (FieldKind.Time ticks_max 2) (codes "-1") ≡ Err Refusal.ValueOutOfRange }
+    ensures half_up { spelled (FieldKind.Time ticks_max time_units.S) (codes "0.000000004") ≡ Ok 1 }
+    ensures under_half { spelled (FieldKind.Time ticks_max time_units.S) (codes "0.000000003") ≡ Ok 0 }
+    ensures ten_places { spelled (FieldKind.Time ticks_max time_units.S) (codes "0.0000000041") ≡ Err Refusal.MalformedValue }
+    ensures below_zero { spelled (FieldKind.Time ticks_max time_units.US) (codes "-1") ≡ Err Refusal.ValueOutOfRange }
     ensures minus_zero { spelled FieldKind.Int (codes "-0") ≡ Ok 0 }
     ensures minus_one { spelled FieldKind.Int (codes "-1") ≡ Ok 0xffff_ffff_ffff_ffff }
     ensures function { spelled FieldKind.Lut (codes "~A & B") ≡ Ok 0x0000_ff00 }
     ensures first_entry { spelled FieldKind.BitMux (codes "TTLIN1.VAL") ≡ Ok 0 }
-    ensures zero_label { spelled FieldKind.BitMux (codes "ZERO") ≡ Ok 128 }
+    ensures zero_label { spelled FieldKind.BitMux (codes "ZERO") ≡ Ok bit_bus.ZERO }
     ensures no_entry { spelled FieldKind.BitMux (codes "LUT9.OUT") ≡ Err Refusal.UnknownLabel }
-    ensures unit { spelled (FieldKind.Enum 10) (codes "us") ≡ Ok 2 }
+    ensures unit { spelled (FieldKind.Enum label_lists.TIME_UNITS) (codes "us") ≡ Ok time_units.US }
 {}
 
 /// The number of what a mux selects fits in a byte.
 pub fn selections_are_small()
-    ensures bits { (raw : ℕ) → IsRaw FieldKind.BitMux raw → raw ≤ 129 }
-    ensures positions { (raw : ℕ) → IsRaw FieldKind.PosMux raw → raw ≤ 32 }
+    ensures bits { (raw : ℕ) → IsRaw FieldKind.BitMux raw → raw ≤ bit_bus.ONE }
+    ensures positions { (raw : ℕ) → IsRaw FieldKind.PosMux raw → raw ≤ position_bus.ZERO }
 {}
