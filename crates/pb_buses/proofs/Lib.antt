@@ -1,4 +1,5 @@
 pub mod ChangeLemmas
 pub mod DelayLemmas
 pub mod LineLemmas
+pub mod RuleLemmas
 pub mod WordLemmas

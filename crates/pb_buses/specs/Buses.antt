@@ -8,24 +8,18 @@ use Rattle.pb_names.specs.declared.position_bus.TheConstants as position_bus
 use Rattle.pb_buses.specs.declared.entries.Bus.{Bus}
 use Rattle.pb_buses.specs.declared.entries.Buses.{Buses}
 
--- a bit entry
+-- a bit entry, and 0 where there is none
 abbrev pub bit : Bus → ℕ → Bool
 bit bus i = slice_index_or bus.bits i false
 
--- a position entry
+-- a position entry, and 0 where there is none; so it is also what a position input with this raw value
+-- selects, since no entry stands at ZERO
 abbrev pub position : Bus → ℕ → ℤ
 position bus i = slice_index_or bus.positions i (pos 0)
 
--- what a bit input with this raw value selects: an entry, ZERO or ONE
+-- what a bit input with this raw value selects: ONE, or an entry; no entry stands at ZERO
 abbrev pub selected : Bus → ℕ → Bool
-selected bus select =
-    if select == bit_bus.ONE then true
-    else (if select == bit_bus.ZERO then false
-    else bit bus select)
-
--- what a position input with this raw value selects: an entry, or ZERO
-abbrev pub selected_position : Bus → ℕ → ℤ
-selected_position bus select = if select == position_bus.ZERO then pos 0 else position bus select
+selected bus select = if select == bit_bus.ONE then true else bit bus select
 
 -- the number whose binary digits are these bits, the lowest first
 unfoldable pub number : List Bool → ℕ

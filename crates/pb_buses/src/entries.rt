@@ -1,7 +1,7 @@
 ghost use Rattle.std.specs.Prelude.{◌≡◌, ◌<◌, ◌≤◌, length, slice_index};
-ghost use Rattle.pb_buses.specs.Buses.{bit, position, selected, selected_position, number, words, opening_buses, changed_at, with_bit, with_position};
+ghost use Rattle.pb_buses.specs.Buses.{bit, position, selected, number, words, opening_buses, changed_at, with_bit, with_position};
 
-use pb_names::{bit_bus, position_bus};
+use pb_names::bit_bus;
 
 /// The entries of both buses at a tick.
 #[derive(Clone, Copy, Debug)]
@@ -57,27 +57,27 @@ impl Buses {
         self.bus.positions[i as usize]
     }
 
-    /// What a bit input selects: 0 to 127 are the entries, 128 is ZERO, 129 is ONE.
+    /// What a bit input with this raw value selects: 0 to 127 are the entries, 129 is ONE, and 128 is
+    /// ZERO. No entry stands at ZERO or above ONE, so there it is 0.
     pub fn selected(&self, select: u8) -> bool
-        requires { select < 130 }
         ensures { result ≡ selected self.now.bus select }
     {
-        match select {
-            bit_bus::ONE => true,
-            bit_bus::ZERO => false,
-            entry => self.bus.bits[entry as usize],
+        if select == bit_bus::ONE {
+            return true;
         }
+        self.bus.bits.get(select as usize).copied().unwrap_or(false)
     }
 
-    /// What a position input selects: 0 to 31 are the entries, 32 is ZERO.
+    /// What a position input with this raw value selects: 0 to 31 are the entries, and 32 is ZERO. No
+    /// entry stands from there on, so there it is 0.
     pub fn selected_position(&self, select: u8) -> i32
-        requires { select ≤ 32 }
-        ensures { result ≡ selected_position self.now.bus select }
+        ensures { result ≡ position self.now.bus select }
     {
-        match select {
-            position_bus::ZERO => 0,
-            entry => self.bus.positions[entry as usize],
-        }
+        self.bus
+            .positions
+            .get(select as usize)
+            .copied()
+            .unwrap_or(0)
     }
 
     /// The bit bus as four words: bit b of word w is entry 32w + b.
