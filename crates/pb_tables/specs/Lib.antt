@@ -1,0 +1,5 @@
+pub mod Bodies
+pub mod Tables
+pub mod Scanning
+pub mod Chunks
+pub mod Held
