@@ -1,10 +1,11 @@
-//! The changes that the outside makes to the box. Which of them are allowed is said in
-//! `specs/Changes.antt`.
+//! The whole box: its blocks in the order of the catalogue, one tick of all of them, and the changes that
+//! the outside makes. `specs/Tick.antt` says what a tick is, `specs/Settings.antt` what a change does.
 #![tactic(auto)]
 
 mod changes;
+mod rests;
+mod units;
 
 pub use changes::{Change, is_taken_role};
-
-#[cfg(test)]
-mod tests;
+pub use rests::Resting;
+pub use units::Unit;
