@@ -1,3 +1,4 @@
 pub mod Changes
+pub mod Machines
 pub mod Resting
 pub mod Units

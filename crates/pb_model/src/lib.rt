@@ -3,9 +3,11 @@
 #![tactic(auto)]
 
 mod changes;
+mod places;
 mod rests;
 mod units;
 
 pub use changes::{Change, is_taken_role};
+pub use places::{MACHINES, machine};
 pub use rests::Resting;
 pub use units::Unit;
