@@ -1,1 +1,3 @@
+pub mod Buses
+pub mod Delay
 pub mod Rules

@@ -4,9 +4,15 @@
 #![tactic(auto)]
 
 mod emits;
+mod entries;
 mod inputs;
+mod laws;
 mod machines;
+mod muxes;
 
 pub use emits::{Condition, Emit, Record};
+pub use entries::{Bus, Buses};
 pub use inputs::{Inputs, Outputs};
+pub use laws::delay_lines_keep_the_past;
 pub use machines::Machine;
+pub use muxes::Mux;

@@ -1,0 +1,3 @@
+pub mod DelayLemmas
+pub mod LineLemmas
+pub mod WordLemmas
