@@ -2,11 +2,13 @@
 //! the outside makes. `specs/Tick.antt` says what a tick is, `specs/Settings.antt` what a change does.
 #![tactic(auto)]
 
+mod blocks;
 mod changes;
 mod places;
 mod rests;
 mod units;
 
+pub use blocks::Block;
 pub use changes::{Change, is_taken_role};
 pub use places::{MACHINES, machine};
 pub use rests::Resting;
