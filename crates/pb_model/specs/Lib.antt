@@ -1,4 +1,5 @@
 pub mod Changes
+pub mod Kept
 pub mod Machines
 pub mod Resting
 pub mod Tick

@@ -1,9 +1,6 @@
 -- One tick of the box.
-use Rattle.std.specs.Prelude.{◌≡◌, ℕ, zero, suc, ℤ, pos, ◌+◌, ◌==◌, Bool, false, List, [], ◌∷◌, ◌++◌, length, map, take, drop, filter, replicate, if◌then◌else◌}
+use Rattle.std.specs.Prelude.{◌≡◌, ℕ, zero, suc, ℤ, pos, ◌+◌, ◌==◌, Bool, false, List, [], ◌∷◌, ◌++◌, map, take, drop, replicate, if◌then◌else◌}
 use Rattle.std.specs.List.{flat_map}
-use Rattle.pb_fields.specs.Catalogue.{FieldRow}
-use Rattle.pb_fields.specs.Places.{fields_of}
-use Rattle.pb_fields.specs.Entries.{is_bit_out, is_pos_out}
 use Rattle.pb_names.specs.declared.ttlin.TheConstants as ttlin
 use Rattle.pb_names.specs.declared.inenc.TheConstants as inenc
 use Rattle.pb_names.specs.declared.pcap.TheConstants as pcap
@@ -15,7 +12,7 @@ use Rattle.pb_buses.specs.declared.Emit.TheVariants as emits
 use Rattle.pb_buses.specs.declared.Bus.{Bus}
 use Rattle.pb_buses.specs.Delay.{BitInput, seen, shifted, digits}
 use Rattle.pb_buses.specs.Buses.{selected, selected_position, words}
-use Rattle.pb_model.specs.Units.{place_of, next, emitted, shown}
+use Rattle.pb_model.specs.Units.{place_of, next, emitted, shown, bit_outputs, position_outputs}
 use Rattle.pb_model.specs.declared.blocks.Block.{Block}
 
 -- the kind of a block, as its place in the catalogue
@@ -69,13 +66,6 @@ handed_on before [] = before
 handed_on before (emit ∷ later) = handed_on (or_before before emit) later
 
 -- What the blocks show.
-
--- how many bit outputs and position outputs a kind has
-unfoldable pub bit_outputs : ℕ → ℕ
-bit_outputs kind = length (filter (λ (f : FieldRow). is_bit_out f.holds) (fields_of kind))
-
-unfoldable pub position_outputs : ℕ → ℕ
-position_outputs kind = length (filter (λ (f : FieldRow). is_pos_out f.holds) (fields_of kind))
 
 -- the bit outputs of a block, in the order of the catalogue
 abbrev pub bits_of : Block → List Bool

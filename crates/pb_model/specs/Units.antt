@@ -1,6 +1,9 @@
 -- A unit is one of the nine kinds of block, with its settings and registers. What is said of it is what is
 -- said of the block inside.
-use Rattle.std.specs.Prelude.{◌≡◌, ℕ, ◌==◌, if◌then◌else◌, refl}
+use Rattle.std.specs.Prelude.{◌≡◌, ℕ, ◌==◌, length, filter, if◌then◌else◌, refl}
+use Rattle.pb_fields.specs.Catalogue.{FieldRow}
+use Rattle.pb_fields.specs.Places.{fields_of}
+use Rattle.pb_fields.specs.Entries.{is_bit_out, is_pos_out}
 use Rattle.pb_buses.specs.declared.Inputs.{Inputs}
 use Rattle.pb_buses.specs.declared.Outputs.{Outputs}
 use Rattle.pb_buses.specs.declared.Emit.{Emit}
@@ -129,6 +132,13 @@ opening_unit b =
     if b == seq.BLOCK then units.Seq resting.opening else (
     if b == pcomp.BLOCK then units.Pcomp resting.opening else (
     units.Pcap resting.opening))))))))
+
+-- how many bit outputs and position outputs a kind has
+unfoldable pub bit_outputs : ℕ → ℕ
+bit_outputs kind = length (filter (λ (f : FieldRow). is_bit_out f.holds) (fields_of kind))
+
+unfoldable pub position_outputs : ℕ → ℕ
+position_outputs kind = length (filter (λ (f : FieldRow). is_pos_out f.holds) (fields_of kind))
 
 -- Neither what it shows nor whether it emits depends on its running counts.
 pub counts_unseen : CountsAreUnseen rules shown

@@ -6,6 +6,7 @@ mod blocks;
 mod changes;
 mod places;
 mod rests;
+mod shows;
 mod units;
 
 pub use blocks::Block;

@@ -1,7 +1,7 @@
 ghost use Rattle.std.specs.Prelude.{◌≡◌, ◌≤◌, ◌<◌};
 ghost use Rattle.pb_names.specs.declared.lut.TheConstants as lut;
 ghost use Rattle.pb_names.specs.declared.pcap.TheConstants as pcap;
-ghost use Rattle.pb_model.specs.Units.{opening_unit, place_of, read_of};
+ghost use Rattle.pb_model.specs.Units.{opening_unit, place_of, bit_outputs, position_outputs};
 
 use crate::rests::Resting;
 use pb_buses::{Emit, Inputs, Machine, Outputs};
@@ -57,6 +57,31 @@ impl Unit {
             Unit::Seq(_) => seq::BLOCK,
             Unit::Pcomp(_) => pcomp::BLOCK,
             Unit::Pcap(_) => pcap::BLOCK,
+        }
+    }
+
+    /// How many bit outputs it has.
+    #[tactic(auto, unfolding(crate::specs::Units::bit_outputs, pb_fields::specs::Catalogue::catalogue))]
+    pub fn bit_outputs(&self) -> u8
+        ensures count { result ≡ bit_outputs (place_of self.now) }
+        ensures few { result ≤ 7 }
+    {
+        match self {
+            Unit::Seq(_) => 7,
+            Unit::Div(_) | Unit::Pcomp(_) => 2,
+            _ => 1,
+        }
+    }
+
+    /// How many position outputs it has: one or none.
+    #[tactic(auto, unfolding(crate::specs::Units::position_outputs, pb_fields::specs::Catalogue::catalogue))]
+    pub fn position_outputs(&self) -> u8
+        ensures count { result ≡ position_outputs (place_of self.now) }
+        ensures few { result ≤ 1 }
+    {
+        match self {
+            Unit::Counter(_) => 1,
+            _ => 0,
         }
     }
 }
