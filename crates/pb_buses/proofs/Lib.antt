@@ -1,3 +1,4 @@
+pub mod ChangeLemmas
 pub mod DelayLemmas
 pub mod LineLemmas
 pub mod WordLemmas

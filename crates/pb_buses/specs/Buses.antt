@@ -47,7 +47,7 @@ opening_bus = record { bits = replicate bit_bus.WIDTH false; positions = replica
 -- Changes. The entries of both buses are counted as one, the positions from 128.
 
 -- the value of an entry, a bit as 0 or 1
-abbrev pub value : Bus → ℕ → ℤ
+unfoldable pub value : Bus → ℕ → ℤ
 value bus entry =
     if nat_lt entry position_bus.FIRST then (if bit bus entry then pos 1 else pos 0)
     else position bus (entry - position_bus.FIRST)
@@ -95,6 +95,6 @@ pub record AgreesWithPast (buses : Buses) (past : List Bus) : Type 0 where
   pub entries : length buses.changed ≡ 160
   pub changes : (entry : ℕ) → entry < 160 → changed_at buses entry ≡ last_change entry (buses.bus ∷ past)
 
--- no change of the entry at this tick is kept yet
+-- the entry didn't change at this tick so far: a change of it at this tick isn't the second one
 abbrev pub IsUnchangedAt : Buses → ℕ → ℕ → Type 0
 IsUnchangedAt buses entry tick = (changed_at buses entry < tick) ⊎ (tick ≡ 0)

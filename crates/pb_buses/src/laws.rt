@@ -1,4 +1,7 @@
-ghost use Rattle.std.specs.Prelude.{◌≡◌, ℕ, ◌+◌, ◌≤◌, Bool, false, List, ◌∷◌, ◌++◌, replicate, slice_index_or};
+ghost use Rattle.std.specs.Prelude.{◌≡◌, ℕ, ℤ, ◌+◌, ◌<◌, ◌≤◌, Bool, false, List, [], ◌∷◌, ◌++◌, length, replicate, slice_index_or};
+ghost use Rattle.pb_buses.specs.declared.entries.Bus.{Bus};
+ghost use Rattle.pb_buses.specs.declared.entries.Buses.{Buses};
+ghost use Rattle.pb_buses.specs.Buses.{value, opening_buses, with_bit, with_position, AgreesWithPast, IsUnchangedAt};
 ghost use Rattle.pb_buses.specs.Delay.{line_after, pushed};
 
 /// The delay line stands for the list of what was selected at the ticks before, the latest first: it
@@ -11,4 +14,20 @@ pub fn delay_lines_keep_the_past()
         slice_index_or (selected ∷ line_after past) delay false ≡ slice_index_or (selected ∷ past) delay false }
     ensures parts { (line : List Bool) (value : Bool) (m n : ℕ) →
         pushed (pushed line value m) value n ≡ pushed line value (n + m) }
+{}
+
+/// The ticks that the buses keep stay those of the list of the bus's states: at opening, when a tick
+/// begins and the state goes to the past, and by each put at that tick on an entry that didn't change at it.
+pub fn puts_keep_the_last_changes()
+    ensures opening { AgreesWithPast opening_buses [] }
+    ensures tick { (buses : Buses) (past : List Bus) → AgreesWithPast buses past → AgreesWithPast buses (buses.bus ∷ past) }
+    ensures bit { (buses : Buses) (past : List Bus) (i : ℕ) (value : Bool) →
+        AgreesWithPast buses past → i < 128 → IsUnchangedAt buses i (length past) →
+        AgreesWithPast (with_bit buses i value (length past)) past }
+    ensures position { (buses : Buses) (past : List Bus) (i : ℕ) (value : ℤ) →
+        AgreesWithPast buses past → i < 32 → IsUnchangedAt buses (128 + i) (length past) →
+        AgreesWithPast (with_position buses i value (length past)) past }
+    ensures unchanged { (buses : Buses) (before : Bus) (past : List Bus) (entry : ℕ) →
+        AgreesWithPast buses (before ∷ past) → entry < 160 →
+        value buses.bus entry ≡ value before entry → IsUnchangedAt buses entry (length past + 1) }
 {}

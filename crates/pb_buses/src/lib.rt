@@ -13,6 +13,6 @@ mod muxes;
 pub use emits::{Condition, Emit, Record};
 pub use entries::{Bus, Buses};
 pub use inputs::{Inputs, Outputs};
-pub use laws::delay_lines_keep_the_past;
+pub use laws::{delay_lines_keep_the_past, puts_keep_the_last_changes};
 pub use machines::Machine;
 pub use muxes::Mux;
