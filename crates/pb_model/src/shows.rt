@@ -1,7 +1,5 @@
-ghost use Rattle.std.specs.Prelude.{◌≡◌, ◌+◌, ◌≤◌, ◌++◌, sum_by};
+ghost use Rattle.std.specs.Prelude.{◌≡◌, ◌+◌, ◌≤◌, ◌++◌, length};
 ghost use Rattle.std.specs.List.{flat_map};
-ghost use Rattle.pb_names.specs.declared.ttlin.TheConstants as ttlin;
-ghost use Rattle.pb_names.specs.declared.inenc.TheConstants as inenc;
 ghost use Rattle.pb_model.specs.Units.{bit_outputs, position_outputs};
 ghost use Rattle.pb_model.specs.Tick.{kind_of, bits_of, positions_of};
 ghost use Rattle.pb_model.specs.Kept.{with_bits, with_positions};
@@ -37,5 +35,43 @@ impl Block {
             buses.put_position(entry, self.unit.outputs().position, tick);
         }
         entry + count
+    }
+}
+
+/// Puts the bit outputs of all blocks on the bus at a tick, one block after the other from this entry on.
+/// The entry behind them.
+pub(crate) fn show_bits(blocks: &[Block], buses: &mut Buses, entry: u8, tick: u64) -> u8
+    requires { entry + length (flat_map bits_of blocks.now) ≤ 128 }
+    ensures shown { buses.new ≡ with_bits entry (flat_map bits_of blocks.now) tick buses.old }
+    ensures next { result ≡ entry + length (flat_map bits_of blocks.now) }
+{
+    let mut next = entry;
+    for block in blocks {
+        next = block.show_bits(buses, next, tick);
+    }
+    next
+}
+
+/// Puts the position outputs of all blocks on the bus at a tick, one block after the other from this entry
+/// on.
+pub(crate) fn show_positions(blocks: &[Block], buses: &mut Buses, entry: u8, tick: u64)
+    requires { entry + length (flat_map positions_of blocks.now) ≤ 32 }
+    ensures { buses.new ≡ with_positions entry (flat_map positions_of blocks.now) tick buses.old }
+{
+    let mut next = entry;
+    for block in blocks {
+        next = block.show_positions(buses, next, tick);
+    }
+}
+
+/// Puts these values on the bit bus at a tick, from this entry on.
+pub(crate) fn show_values(values: &[bool], buses: &mut Buses, entry: u8, tick: u64)
+    requires { entry + length values.now ≤ 128 }
+    ensures { buses.new ≡ with_bits entry values.now tick buses.old }
+{
+    let mut next = entry;
+    for value in values {
+        buses.put_bit(next, *value, tick);
+        next += 1;
     }
 }
