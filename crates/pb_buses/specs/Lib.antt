@@ -1,3 +1,4 @@
 pub mod Buses
 pub mod Delay
+pub mod Edges
 pub mod Rules

@@ -3,6 +3,7 @@
 //! block is defined (`specs/Rules.antt`).
 #![tactic(auto)]
 
+mod edges;
 mod emits;
 mod entries;
 mod inputs;
@@ -10,6 +11,7 @@ mod laws;
 mod machines;
 mod muxes;
 
+pub use edges::Edge;
 pub use emits::{Condition, Emit, Record};
 pub use entries::{Bus, Buses};
 pub use inputs::{Inputs, Outputs};
