@@ -1,3 +1,5 @@
+pub mod BusLemmas
 pub mod Mapped
 pub mod PlaceLemmas
 pub mod ShownLemmas
+pub mod TickLemmas

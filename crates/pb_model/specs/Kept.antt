@@ -5,9 +5,10 @@ use Rattle.std.specs.List.{flat_map}
 use Rattle.pb_names.specs.declared.ttlin.TheConstants as ttlin
 use Rattle.pb_names.specs.declared.inenc.TheConstants as inenc
 use Rattle.pb_buses.specs.declared.Buses.{Buses}
-use Rattle.pb_buses.specs.Buses.{with_bit, with_position, AgreesWithPast}
+use Rattle.pb_buses.specs.Buses.{with_bit, with_position, opening_buses, AgreesWithPast}
 use Rattle.pb_model.specs.declared.blocks.Block.{Block}
-use Rattle.pb_model.specs.Tick.{Standing, Box, bits_of, positions_of, block_after}
+use Rattle.pb_model.specs.Machines.{machine_kinds}
+use Rattle.pb_model.specs.Tick.{Standing, Box, kind_of, bits_of, positions_of, block_after, opening_standing}
 
 -- the bit entries from this one on take these values at a tick
 abbrev pub with_bits : ℕ → List Bool → ℕ → Buses → Buses
@@ -32,9 +33,18 @@ pub record Kept : Type 0 where
   pub settings : List Bool
   pub blocks : List Block
 
+-- The blocks are those of the catalogue, and BITS has four settings.
+pub record IsWhole (blocks : List Block) (settings : List Bool) : Type 0 where
+  pub kinds : map kind_of blocks ≡ machine_kinds
+  pub four : length settings ≡ 4
+
 -- what stands
 abbrev pub stands_of : Kept → Standing
 stands_of kept = record { tick = kept.tick; bus = kept.buses.bus; settings = kept.settings; blocks = kept.blocks }
+
+-- as the box opens
+abbrev pub opening : Kept
+opening = record { tick = 0; buses = opening_buses; settings = opening_standing.settings; blocks = opening_standing.blocks }
 
 -- what is kept one tick later
 abbrev pub kept_after : Kept → Kept
@@ -53,3 +63,7 @@ pub record Agrees (kept : Kept) (box : Box) : Type 0 where
   pub stands : stands_of kept ≡ box.stands
   pub ticks : length box.past ≡ kept.tick
   pub changes : AgreesWithPast kept.buses box.past
+
+-- the box with other buses
+abbrev pub with_buses : Kept → Buses → Kept
+with_buses kept buses = record { tick = kept.tick; buses = buses; settings = kept.settings; blocks = kept.blocks }

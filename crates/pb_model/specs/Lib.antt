@@ -1,5 +1,6 @@
 pub mod Changes
 pub mod Kept
+pub mod Lending
 pub mod Machines
 pub mod Resting
 pub mod Tick

@@ -54,3 +54,7 @@ abbrev pub of_name : {X : Type 0} → List Name → Name → List X → X → X
 of_name [] of xs other = other
 of_name (n ∷ names) of [] other = other
 of_name (n ∷ names) of (x ∷ xs) other = if is_name of n then x else of_name names of xs other
+
+-- their kinds
+unfoldable pub machine_kinds : List ℕ
+machine_kinds = map (λ (of : Name). of.kind) machines

@@ -22,6 +22,9 @@ IsSettable block field raw = Unit {0}
 abbrev pub with_field : Resting → ℕ → ℕ → Resting
 with_field block field raw = block
 
--- every field reads 0
-abbrev pub read_of : Resting → ℕ → ℕ
-read_of block field = 0
+-- whatever is read is 0
+abbrev pub IsRead : ℕ → Type 0
+IsRead field = Unit {0}
+
+abbrev pub value_read : Resting → ℕ → ℕ
+value_read block field = 0

@@ -1,8 +1,12 @@
 -- One tick of the box.
-use Rattle.std.specs.Prelude.{◌≡◌, ℕ, zero, suc, ℤ, pos, ◌+◌, ◌==◌, Bool, false, List, [], ◌∷◌, ◌++◌, map, take, drop, replicate, if◌then◌else◌}
+use Rattle.std.specs.Prelude.{◌≡◌, ℕ, zero, suc, ℤ, pos, ◌+◌, ◌==◌, ◌||◌, Bool, false, List, [], ◌∷◌, ◌++◌, map, take, drop, replicate, if◌then◌else◌}
 use Rattle.std.specs.List.{flat_map}
 use Rattle.pb_names.specs.declared.ttlin.TheConstants as ttlin
 use Rattle.pb_names.specs.declared.inenc.TheConstants as inenc
+use Rattle.pb_names.specs.declared.srgate.TheConstants as srgate
+use Rattle.pb_names.specs.declared.div.TheConstants as div
+use Rattle.pb_names.specs.declared.pulse.TheConstants as pulse
+use Rattle.pb_names.specs.declared.counter.TheConstants as counter
 use Rattle.pb_names.specs.declared.pcap.TheConstants as pcap
 use Rattle.pb_names.specs.declared.bit_bus.TheConstants as bit_bus
 use Rattle.pb_names.specs.declared.position_bus.TheConstants as position_bus
@@ -10,9 +14,10 @@ use Rattle.pb_buses.specs.declared.Inputs.{Inputs}
 use Rattle.pb_buses.specs.declared.Emit.{Emit}
 use Rattle.pb_buses.specs.declared.Emit.TheVariants as emits
 use Rattle.pb_buses.specs.declared.Bus.{Bus}
-use Rattle.pb_buses.specs.Delay.{BitInput, seen, shifted, digits}
-use Rattle.pb_buses.specs.Buses.{selected, selected_position, words}
-use Rattle.pb_model.specs.Units.{place_of, next, emitted, shown, bit_outputs, position_outputs}
+use Rattle.pb_buses.specs.Delay.{BitInput, seen, shifted, wired, opening_input, digits}
+use Rattle.pb_buses.specs.Buses.{selected, selected_position, words, opening_bus}
+use Rattle.pb_model.specs.Units.{place_of, next, emitted, shown, bit_outputs, position_outputs, opening_unit}
+use Rattle.pb_model.specs.Machines.{machine_kinds}
 use Rattle.pb_model.specs.declared.blocks.Block.{Block}
 
 -- the kind of a block, as its place in the catalogue
@@ -125,3 +130,34 @@ tick box = record { stands = standing_after box.stands; past = box.stands.bus �
 abbrev pub ticks : ℕ → Box → Box
 ticks zero box = box
 ticks (suc n) box = ticks n (tick box)
+
+-- As the box opens.
+
+-- what the bit inputs of a kind select: an ENABLE of what runs at once, and the GATE of PCAP, select ONE
+abbrev pub opening_selections : ℕ → List ℕ
+opening_selections kind =
+    if kind == srgate.BLOCK || kind == div.BLOCK || kind == pulse.BLOCK || kind == counter.BLOCK
+    then bit_bus.ONE ∷ bit_bus.ZERO ∷ bit_bus.ZERO ∷ bit_bus.ZERO ∷ bit_bus.ZERO ∷ []
+    else (if kind == pcap.BLOCK
+    then bit_bus.ZERO ∷ bit_bus.ONE ∷ bit_bus.ZERO ∷ bit_bus.ZERO ∷ bit_bus.ZERO ∷ []
+    else bit_bus.ZERO ∷ bit_bus.ZERO ∷ bit_bus.ZERO ∷ bit_bus.ZERO ∷ bit_bus.ZERO ∷ [])
+
+unfoldable pub opening_block : ℕ → Block
+opening_block kind =
+    record {
+      unit = opening_unit kind;
+      bits = map (wired opening_input) (opening_selections kind);
+      positions = position_bus.ZERO ∷ position_bus.ZERO ∷ position_bus.ZERO ∷ [];
+    }
+
+abbrev pub opening_standing : Standing
+opening_standing =
+    record {
+      tick = 0;
+      bus = opening_bus;
+      settings = false ∷ false ∷ false ∷ false ∷ [];
+      blocks = map opening_block machine_kinds;
+    }
+
+abbrev pub opening_box : Box
+opening_box = record { stands = opening_standing; past = [] }

@@ -3,14 +3,18 @@
 #![tactic(auto)]
 
 mod blocks;
+mod boxes;
 mod changes;
 mod places;
 mod rests;
 mod shows;
+mod ticks;
 mod units;
 
 pub use blocks::Block;
+pub use boxes::BoxState;
 pub use changes::{Change, is_taken_role};
 pub use places::{MACHINES, machine};
 pub use rests::Resting;
+pub use ticks::tick;
 pub use units::Unit;

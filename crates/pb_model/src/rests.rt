@@ -16,6 +16,13 @@ impl Resting {
     {
         Resting
     }
+
+    /// The value of a read field.
+    pub fn read(&self, _field: u8) -> u64
+        ensures { result ≡ 0 }
+    {
+        0
+    }
 }
 
 impl Machine for Resting {

@@ -1,10 +1,11 @@
 ghost use Rattle.std.specs.Prelude.{◌≡◌, ◌≤◌, ◌<◌};
 ghost use Rattle.pb_names.specs.declared.lut.TheConstants as lut;
 ghost use Rattle.pb_names.specs.declared.pcap.TheConstants as pcap;
-ghost use Rattle.pb_model.specs.Units.{opening_unit, place_of, bit_outputs, position_outputs};
+ghost use Rattle.pb_model.specs.Units.{opening_unit, place_of, IsRead, value_read, bit_outputs, position_outputs};
 
 use crate::rests::Resting;
 use pb_buses::{Emit, Inputs, Machine, Outputs};
+use pb_logic::{Lut, Srgate, Div, Counter, Clock};
 use pb_names::{clock, counter, div, lut, pcap, pcomp, pulse, seq, srgate};
 use pb_words::Steps;
 use std::sync::ledger::Ledger;
@@ -12,12 +13,12 @@ use std::sync::ledger::Ledger;
 /// A block of one of the nine kinds.
 #[derive(Drop)]
 pub enum Unit {
-    Lut(Resting),
-    Srgate(Resting),
-    Div(Resting),
+    Lut(Lut),
+    Srgate(Srgate),
+    Div(Div),
     Pulse(Resting),
-    Counter(Resting),
-    Clock(Resting),
+    Counter(Counter),
+    Clock(Clock),
     Seq(Resting),
     Pcomp(Resting),
     Pcap(Resting),
@@ -31,12 +32,12 @@ impl Unit {
         ensures { result ≡ opening_unit block }
     {
         match block {
-            lut::BLOCK => Unit::Lut(Resting::new()),
-            srgate::BLOCK => Unit::Srgate(Resting::new()),
-            div::BLOCK => Unit::Div(Resting::new()),
+            lut::BLOCK => Unit::Lut(Lut::new()),
+            srgate::BLOCK => Unit::Srgate(Srgate::new()),
+            div::BLOCK => Unit::Div(Div::new()),
             pulse::BLOCK => Unit::Pulse(Resting::new()),
-            counter::BLOCK => Unit::Counter(Resting::new()),
-            clock::BLOCK => Unit::Clock(Resting::new()),
+            counter::BLOCK => Unit::Counter(Counter::new()),
+            clock::BLOCK => Unit::Clock(Clock::new()),
             seq::BLOCK => Unit::Seq(Resting::new()),
             pcomp::BLOCK => Unit::Pcomp(Resting::new()),
             _ => Unit::Pcap(Resting::new()),
@@ -57,6 +58,18 @@ impl Unit {
             Unit::Seq(_) => seq::BLOCK,
             Unit::Pcomp(_) => pcomp::BLOCK,
             Unit::Pcap(_) => pcap::BLOCK,
+        }
+    }
+
+    /// The value of a read field, by its place in the block.
+    pub fn read(&self, field: u8) -> u64
+        requires { IsRead self.now field }
+        ensures { result ≡ value_read self.now field }
+    {
+        match self {
+            Unit::Div(block) => block.read(field),
+            Unit::Pulse(block) | Unit::Seq(block) | Unit::Pcomp(block) | Unit::Pcap(block) => block.read(field),
+            Unit::Lut(_) | Unit::Srgate(_) | Unit::Counter(_) | Unit::Clock(_) => unreachable!(),
         }
     }
 
