@@ -64,7 +64,7 @@ has_label _ = true
 label_there : (b f : ℕ) → has_label (type_of b f) ≡ true
 unfolding catalogue label_list
 label_there b f =
-    all_at (λ r. has_label r.holds) (fields_of b) (field [] types.Table) f
+    all_at (λ r. has_label r.holds) (fields_of b) (field [] types.Table 0) f
     (all_at (λ r. list_all (λ s. has_label s.holds) r.fields) catalogue (block [] 0 []) b refl refl)
     refl
 

@@ -84,10 +84,6 @@ get_or-places_from i (x ∷ xs) zero d row lt = ap (λ n. (x.name, n)) (omega ar
 get_or-places_from i (x ∷ xs) (suc k) d row lt =
     get_or-places_from (i + 1) xs k d row (omega (arith, lt)) ∙ ap (λ n. ((get_or xs k row).name, n)) (omega arith)
 
-length-places_from : (i : ℕ) (rows : List BlockRow) → length (places_from i rows) ≡ length rows
-length-places_from i [] = refl
-length-places_from i (x ∷ xs) = ap suc (length-places_from (i + 1) xs)
-
 place_at : (i : ℕ) → i < 12 → take (i + 1) block_places ≡ take i block_places ++ ((block_of i).name, i) ∷ []
 unfolding catalogue
 place_at i lt =

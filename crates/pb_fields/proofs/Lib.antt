@@ -1,4 +1,5 @@
 pub mod RowLemmas
+pub mod DefaultLemmas
 pub mod FindingLemmas
 pub mod BlockNameLemmas
 pub mod RunLemmas
@@ -14,3 +15,4 @@ pub mod EntryLaws
 pub mod TargetLemmas
 pub mod PrintedLemmas
 pub mod NamedLemmas
+pub mod MissingLemmas

@@ -21,7 +21,7 @@ use Rattle.pb_fields.specs.Slots.{IsSlot, attribute_at}
 use Rattle.pb_fields.specs.Order.{slot_at}
 use Rattle.pb_fields.specs.Names.{instance_text, attribute_end, target_of, numbered_target_of, IsNameOf}
 use Rattle.pb_fields.proofs.RowLemmas.{and_left, and_right}
-use Rattle.pb_fields.specs.Finding.{is_point, before_point, after_point, stem_of, number_of, block_with, block_named, instance_numbered, field_named, attribute_named, or_refused, slot_named, slot_after, found_of}
+use Rattle.pb_fields.specs.Finding.{is_point, before_point, after_point, stem_of, number_of, block_with, block_named, instance_numbered, field_named, attribute_named, or_refused, slot_named, slot_of_rest, found_of}
 
 -- a step that found its way has found something
 Ok-or_refused : {A B : Type 0} (o : Option A) (e : Refusal) (next : A → Result B Refusal) (y : B) → or_refused o e next ≡ Ok y → (x : A) × (o ≡ Some x) × (next x ≡ Ok y)
@@ -68,16 +68,16 @@ parts text None h = sym (append-nil (before_point text) ∙ whole_at text _ refl
 parts text (Some rest) h = join text rest h
 
 -- what the look-ups tell of the names
-block_by : (name : List ℕ) (b : ℕ) (t : Bool) → cond {A = Option ℕ} t (block_with (stem_of name)) None ≡ Some b → (b < 12) × ((block_of b).name ≡ stem_of name)
+pub block_by : (name : List ℕ) (b : ℕ) (t : Bool) → cond {A = Option ℕ} t (block_with (stem_of name)) None ≡ Some b → (b < 12) × ((block_of b).name ≡ stem_of name)
 unfolding catalogue
 block_by name b true h =
     let told = position-Some (λ (r : BlockRow). pointwise nat_eq r.name (stem_of name)) catalogue b (block [] 0 []) h in
     (told.0, same_text (block_of b).name (stem_of name) (sym told.1))
 block_by name b false h = cc
 
-field_told : (b f : ℕ) (name : List ℕ) → field_named b name ≡ Some f → (f < length (fields_of b)) × ((field_of b f).name ≡ name)
+pub field_told : (b f : ℕ) (name : List ℕ) → field_named b name ≡ Some f → (f < length (fields_of b)) × ((field_of b f).name ≡ name)
 field_told b f name h =
-    let told = position-Some (λ (r : FieldRow). pointwise nat_eq r.name name) (fields_of b) f (field [] types.Table) h in
+    let told = position-Some (λ (r : FieldRow). pointwise nat_eq r.name name) (fields_of b) f (field [] types.Table 0) h in
     (told.0, same_text (field_of b f).name name (sym told.1))
 
 attribute_told : (b i f a : ℕ) (o : Option (List ℕ)) → attribute_named b f o ≡ Some a → (a ≤ length (attributes_of (type_of b f))) × (attribute_end (attribute_at (slot_at b i f a)) ≡ end_of o)
@@ -101,7 +101,7 @@ attribute_told b i f a (Some name) h =
     )
 
 -- what a number tells of the instance
-abbrev NumberForms : ℕ → ℕ → List ℕ → Type 0
+abbrev pub NumberForms : ℕ → ℕ → List ℕ → Type 0
 NumberForms count i number = ((count ≡ 1) × (number ≡ [])) ⊎ (number ≡ (48 + i) ∷ [])
 
 none_by : (count i : ℕ) (t : Bool) → eqb count 1 ≡ t → cond {A = Option ℕ} t (Some 1) None ≡ Some i → (1 ≤ i) × (i ≤ count) × NumberForms count i []
@@ -120,7 +120,7 @@ digit_by count i digit true e h =
     (omega arith, omega arith, inr (ap (λ d. d ∷ []) back))
 digit_by count i digit false e h = cc
 
-number_told : (count i : ℕ) (number : List ℕ) → instance_numbered count number ≡ Some i → (1 ≤ i) × (i ≤ count) × NumberForms count i number
+pub number_told : (count i : ℕ) (number : List ℕ) → instance_numbered count number ≡ Some i → (1 ≤ i) × (i ≤ count) × NumberForms count i number
 number_told count i [] h = none_by count i _ refl h
 number_told count i (digit ∷ []) h = digit_by count i digit _ refl h
 number_told count i (digit ∷ other ∷ more) h = cc
@@ -146,7 +146,7 @@ name_forms b i name number from_one in_count h (inl (one, none)) =
 name_forms b i name number from_one in_count h (inr digit) =
     name_by b i name (eqb (count_of b) 1) refl from_one in_count (h ∙ ap (λ l. (block_of b).name ++ l) digit)
 
-after_told : (b i : ℕ) (o : Option (List ℕ)) (slot : Slot) → slot_after b i o ≡ Ok slot → (rest : List ℕ) × (o ≡ Some rest) × (slot_named b i rest ≡ Ok slot)
+after_told : (b i : ℕ) (o : Option (List ℕ)) (slot : Slot) → slot_of_rest b i o ≡ Ok slot → (rest : List ℕ) × (o ≡ Some rest) × (slot_named b i rest ≡ Ok slot)
 after_told b i None slot h = cc
 after_told b i (Some rest) slot h = (rest, refl, h)
 
@@ -168,10 +168,10 @@ text_of text name rest this cut named tail =
 pub found_of-named : (text : List ℕ) (slot : Slot) → found_of text ≡ Ok slot → IsSlot slot × IsNameOf text slot
 found_of-named text slot h =
     let name : List ℕ = before_point text in
-    let at_block = Ok-or_refused (block_named name) refusals.NoSuchBlock (λ b. or_refused (instance_numbered (count_of b) (number_of name)) refusals.BlockNumberOutOfRange (λ i. slot_after b i (after_point text))) slot h in
+    let at_block = Ok-or_refused (block_named name) refusals.NoSuchBlock (λ b. or_refused (instance_numbered (count_of b) (number_of name)) refusals.BlockNumberOutOfRange (λ i. slot_of_rest b i (after_point text))) slot h in
     let b : ℕ = at_block.0 in
     let told_block = block_by name b _ at_block.1 in
-    let at_instance = Ok-or_refused (instance_numbered (count_of b) (number_of name)) refusals.BlockNumberOutOfRange (λ i. slot_after b i (after_point text)) slot at_block.2 in
+    let at_instance = Ok-or_refused (instance_numbered (count_of b) (number_of name)) refusals.BlockNumberOutOfRange (λ i. slot_of_rest b i (after_point text)) slot at_block.2 in
     let i : ℕ = at_instance.0 in
     let told_number = number_told (count_of b) i (number_of name) at_instance.1 in
     let after = after_told b i (after_point text) slot at_instance.2 in

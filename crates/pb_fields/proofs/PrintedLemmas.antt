@@ -18,7 +18,7 @@ use Rattle.pb_fields.specs.Catalogue.{catalogue}
 use Rattle.pb_fields.specs.Places.{block_of, count_of, field_of, type_of}
 use Rattle.pb_fields.specs.Slots.{IsSlot, attributes_at, attribute_at}
 use Rattle.pb_fields.specs.Names.{number_text, instance_text, attribute_end, target_of, IsNameOf}
-use Rattle.pb_fields.specs.Finding.{is_point, before_point, after_point, stem_of, number_of, block_with, block_named, instance_numbered, field_named, attribute_named, or_refused, slot_named, slot_after, found_of}
+use Rattle.pb_fields.specs.Finding.{is_point, before_point, after_point, stem_of, number_of, block_with, block_named, instance_numbered, field_named, attribute_named, or_refused, slot_named, slot_of_rest, found_of}
 use Rattle.pb_fields.proofs.RowLemmas.{count_few}
 use Rattle.pb_fields.proofs.EntryLaws.{agree}
 use Rattle.pb_fields.proofs.RunLemmas.{of_fields}
@@ -58,7 +58,7 @@ unfolding named_field this_field
 field_named-name slot s = some_of _ _ (agree named_field this_field fields_named slot s)
 
 -- no two attributes of a type have one name
-abbrev named_attribute : FieldType → ℕ → Option ℕ
+abbrev pub named_attribute : FieldType → ℕ → Option ℕ
 named_attribute t k =
     position (λ a. pointwise nat_eq (attribute_text a) (attribute_text (get_or (attributes_of t) k attributes.Info))) (attributes_of t)
 
@@ -80,7 +80,7 @@ attributes_named types.BitMux = refl
 attributes_named types.PosMux = refl
 attributes_named types.Table = refl
 
-attribute_place : (t : FieldType) (k : ℕ) → k < length (attributes_of t) → named_attribute t k ≡ Some k
+pub attribute_place : (t : FieldType) (k : ℕ) → k < length (attributes_of t) → named_attribute t k ≡ Some k
 attribute_place t k h =
     sym (get_or-map-range_with_len (named_attribute t) 0 (length (attributes_of t)) k k None h (omega arith))
     ∙ ap (λ l. get_or l k None) (attributes_named t)
@@ -106,7 +106,7 @@ after-end name None h = ap after_point (append-nil name) ∙ after-whole name h
 after-end name (Some a) h = after-cut name (attribute_text a) h
 
 -- the block and its number are cut apart and read
-block_named-text : (b : ℕ) (number : List ℕ) → b < 12 → list_all is_ascii_digit number ≡ true → block_named ((block_of b).name ++ number) ≡ Some b
+pub block_named-text : (b : ℕ) (number : List ℕ) → b < 12 → list_all is_ascii_digit number ≡ true → block_named ((block_of b).name ++ number) ≡ Some b
 block_named-text b number h digits =
     let name : List ℕ = (block_of b).name in
     ap (λ n. cond {A = Option ℕ} (list_all is_ascii_digit n) (block_with (stem_of (name ++ number))) None) (number-cut name number (block_letters b) digits)
@@ -143,10 +143,10 @@ pub found_of-text : (slot : Slot) (name : List ℕ) → IsSlot slot → list_all
 found_of-text slot name s plain named numbered =
     let rest : List ℕ = (field_of slot.block slot.field).name ++ attribute_end (attribute_at slot) in
     let text : List ℕ = name ++ 46 ∷ rest in
-    ap (λ n. or_refused (block_named n) refusals.NoSuchBlock (λ b. or_refused (instance_numbered (count_of b) (number_of n)) refusals.BlockNumberOutOfRange (λ i. slot_after b i (after_point text)))) (before-cut name rest plain)
-    ∙ ap (λ o. or_refused o refusals.NoSuchBlock (λ b. or_refused (instance_numbered (count_of b) (number_of name)) refusals.BlockNumberOutOfRange (λ i. slot_after b i (after_point text)))) named
-    ∙ ap (λ o. or_refused o refusals.BlockNumberOutOfRange (λ i. slot_after slot.block i (after_point text))) numbered
-    ∙ ap (slot_after slot.block slot.instance) (after-cut name rest plain)
+    ap (λ n. or_refused (block_named n) refusals.NoSuchBlock (λ b. or_refused (instance_numbered (count_of b) (number_of n)) refusals.BlockNumberOutOfRange (λ i. slot_of_rest b i (after_point text)))) (before-cut name rest plain)
+    ∙ ap (λ o. or_refused o refusals.NoSuchBlock (λ b. or_refused (instance_numbered (count_of b) (number_of name)) refusals.BlockNumberOutOfRange (λ i. slot_of_rest b i (after_point text)))) named
+    ∙ ap (λ o. or_refused o refusals.BlockNumberOutOfRange (λ i. slot_of_rest slot.block i (after_point text))) numbered
+    ∙ ap (slot_of_rest slot.block slot.instance) (after-cut name rest plain)
     ∙ slot_named-text slot s
 
 pub found_of-target : (slot : Slot) → IsSlot slot → found_of (target_of slot) ≡ Ok slot

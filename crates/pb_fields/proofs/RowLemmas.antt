@@ -11,7 +11,7 @@ use Rattle.pb_fields.specs.Places.{block_of, count_of, fields_of, field_of}
 
 -- the rows that are read beyond the end of a table
 abbrev pub no_field : Field
-no_field = record { 0 = record { ref_ptr = (0, 0); now = [] }; 1 = types.ParamUint 0 }
+no_field = record { 0 = record { ref_ptr = (0, 0); now = [] }; 1 = types.ParamUint 0; 2 = 0 }
 
 abbrev pub no_block : Block
 no_block = record { 0 = record { ref_ptr = (0, 0); now = [] }; 1 = 0; 2 = record { ref_ptr = (0, 0); now = [] } }
@@ -49,7 +49,7 @@ pub field_short : (b f : ℕ) → length (field_of b f).name ≤ 13
 unfolding catalogue
 field_short b f =
     leb-true _ _
-    (all_at (λ r. leb (length r.name) 13) (fields_of b) (field [] types.Table) f
+    (all_at (λ r. leb (length r.name) 13) (fields_of b) (field [] types.Table 0) f
     (all_at (λ r. list_all (λ s. leb (length s.name) 13) r.fields) catalogue (block [] 0 []) b refl refl)
     refl)
 

@@ -1,5 +1,5 @@
 -- What is computed of a text is what the text spells, or why it spells nothing.
-use Rattle.std.proofs.Common.{◌≡◌, ◌≢◌, ℕ, ◌<◌, ◌≤◌, Bool, nat_eq, nat_le, List, [], length, get_or, slice_get, codes, ℤ, pos, negsuc, Option, Some, None, IsSome, Result, Ok, Err, ◌↔◌, MatchResult, IfOk, IfErr, refl, ap, sym, ◌∙◌, subst, inl, inr, arith}
+use Rattle.std.proofs.Common.{◌⊎◌, ◌≡◌, ◌≢◌, ℕ, ◌<◌, ◌≤◌, Bool, nat_eq, nat_le, List, [], length, get_or, slice_get, codes, ℤ, pos, negsuc, Option, Some, None, IsSome, Result, Ok, Err, ◌↔◌, MatchResult, IfOk, IfErr, refl, ap, sym, ◌∙◌, subst, inl, inr, arith}
 use Rattle.std.specs.Int.{w64, cast_unsigned}
 use Rattle.std.specs.Cmp.Lexicographic.{pointwise, bytes_decides}
 use Rattle.std.proofs.lemmas.Bool.{cases_Bool, cases_eq, cond_both, leb-true, leb-false, both_ways}
@@ -232,6 +232,14 @@ module _ (kind : FieldKind) (text : List ℕ) where
   pub read_computed : IsSpelledKind kind → (read : Result ℕ Refusal) → IfOk read (Spells kind text) → IfErr read (Refuses kind text) → read ≡ spelled kind text
   read_computed k (Ok n) found refused = sym ((spelled_value k n).0 found)
   read_computed k (Err refusal) found refused = sym ((spelled_refusal k refusal).0 refused)
+
+-- there is a value, or a reason
+answered : (kind : FieldKind) (text : List ℕ) (answer : Result ℕ Refusal) → Answers kind text answer → ((raw : ℕ) × Spells kind text raw) ⊎ ((refusal : Refusal) × Refuses kind text refusal)
+answered kind text (Ok n) a = inl (n, a)
+answered kind text (Err refusal) a = inr (refusal, a)
+
+pub value_or_refusal : (kind : FieldKind) (text : List ℕ) → IsSpelledKind kind → ((raw : ℕ) × Spells kind text raw) ⊎ ((refusal : Refusal) × Refuses kind text refusal)
+value_or_refusal kind text k = answered kind text (spelled kind text) (answers kind text k)
 
 -- for the reader of a value
 pub ruleset reading = (only_value, read_in_range, read_computed)

@@ -84,33 +84,9 @@ block_letters b = all_at (λ r. none_pass is_ascii_digit r.name) catalogue (bloc
 pub field_plain : (b f : ℕ) → none_pass is_point (field_of b f).name ≡ true
 unfolding catalogue
 field_plain b f =
-    all_at (λ r. none_pass is_point r.name) (fields_of b) (field [] types.Table) f
+    all_at (λ r. none_pass is_point r.name) (fields_of b) (field [] types.Table 0) f
     (all_at (λ r. list_all (λ s. none_pass is_point s.name) r.fields) catalogue (block [] 0 []) b refl refl)
     refl
-
-pub attribute_plain : (a : Attribute) → none_pass is_point (attribute_text a) ≡ true
-attribute_plain attributes.Info = refl
-attribute_plain attributes.Max = refl
-attribute_plain attributes.Labels = refl
-attribute_plain attributes.LutRaw = refl
-attribute_plain attributes.TimeUnits = refl
-attribute_plain attributes.TimeRaw = refl
-attribute_plain attributes.CaptureWord = refl
-attribute_plain attributes.BitOffset = refl
-attribute_plain attributes.PosCapture = refl
-attribute_plain attributes.Offset = refl
-attribute_plain attributes.Scale = refl
-attribute_plain attributes.Units = refl
-attribute_plain attributes.Scaled = refl
-attribute_plain attributes.ExtCapture = refl
-attribute_plain attributes.Bits = refl
-attribute_plain attributes.Delay = refl
-attribute_plain attributes.MaxDelay = refl
-attribute_plain attributes.MaxLength = refl
-attribute_plain attributes.Length = refl
-attribute_plain attributes.RowWords = refl
-attribute_plain attributes.Fields = refl
-attribute_plain attributes.Base64 = refl
 
 -- the number of an instance is a digit, is no point, and is read as the instance
 digit_passes : (i : ℕ) → i ≤ 8 → list_all is_ascii_digit ((48 + i) ∷ []) ≡ true

@@ -1,3 +1,4 @@
+-- Words of private helpers: no public clause cites them.
 -- The names of the blocks, each with its place.
 use Rattle.std.specs.Prelude.{ℕ, ◌+◌, List, [], ◌∷◌}
 use Rattle.std.specs.Borrow.{Bor}

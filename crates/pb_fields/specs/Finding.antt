@@ -6,6 +6,7 @@ use Rattle.std.specs.Cmp.Lexicographic.{pointwise}
 use Rattle.std.specs.Option.{option_map}
 use Rattle.pb_words.specs.declared.refusals.Refusal.{Refusal}
 use Rattle.pb_words.specs.declared.refusals.Refusal.TheVariants as refusals
+use Rattle.pb_names.specs.declared.TheConstants.{ITSELF}
 use Rattle.pb_fields.specs.declared.slots.Slot.{Slot}
 use Rattle.pb_fields.specs.Types.{attribute_text, attributes_of}
 use Rattle.pb_fields.specs.Catalogue.{catalogue}
@@ -51,9 +52,9 @@ instance_numbered count (digit ∷ other ∷ more) = None
 abbrev pub field_named : ℕ → List ℕ → Option ℕ
 field_named b name = position (λ row. pointwise nat_eq row.name name) (fields_of b)
 
--- the attribute of that name, counted from 1; where the target ends with the field, 0
+-- the attribute of that name, counted from 1; where the target ends with the field, the field itself
 abbrev pub attribute_named : ℕ → ℕ → Option (List ℕ) → Option ℕ
-attribute_named b f None = Some 0
+attribute_named b f None = Some ITSELF
 attribute_named b f (Some name) =
     option_map (λ i. i + 1)
     (position (λ attribute. pointwise nat_eq (attribute_text attribute) name) (attributes_of (type_of b f)))
@@ -71,16 +72,16 @@ slot_named b i text =
     Ok (record { block = b; instance = i; field = f; attr = a })))
 
 -- a target without a point names no field
-abbrev pub slot_after : ℕ → ℕ → Option (List ℕ) → Result Slot Refusal
-slot_after b i None = Err refusals.NoSuchField
-slot_after b i (Some text) = slot_named b i text
+abbrev pub slot_of_rest : ℕ → ℕ → Option (List ℕ) → Result Slot Refusal
+slot_of_rest b i None = Err refusals.NoSuchField
+slot_of_rest b i (Some text) = slot_named b i text
 
 -- the slot that a target names, or the first refusal that fits: of its block, its number, its field, its attribute
 abbrev pub found_of : List ℕ → Result Slot Refusal
 found_of text =
     or_refused (block_named (before_point text)) refusals.NoSuchBlock (λ b.
     or_refused (instance_numbered (count_of b) (number_of (before_point text))) refusals.BlockNumberOutOfRange (λ i.
-    slot_after b i (after_point text)))
+    slot_of_rest b i (after_point text)))
 
 -- a name with a number has the number of an instance
 abbrev pub block_numbered : ℕ → List ℕ → Result ℕ Refusal

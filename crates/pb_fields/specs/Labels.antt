@@ -1,6 +1,9 @@
 -- The labels of enumerations and muxes.
 use Rattle.std.specs.Prelude.{ℕ, ◌+◌, List, [], ◌∷◌, ◌++◌, map, slice_get, Option, Some, codes, if◌then◌else◌, ◌==◌}
 use Rattle.std.specs.List.{range_with_len, flat_map}
+use Rattle.pb_names.specs.declared.label_lists.TheConstants as label_lists
+use Rattle.pb_names.specs.declared.bit_bus.TheConstants as bit_bus
+use Rattle.pb_names.specs.declared.position_bus.TheConstants as position_bus
 
 -- what an SRGATE puts out while it is disabled
 abbrev pub when_disabled : List (List ℕ)
@@ -44,19 +47,19 @@ own_captures = codes "No" ∷ codes "Value" ∷ []
 abbrev pub time_units : List (List ℕ)
 time_units = codes "s" ∷ codes "ms" ∷ codes "us" ∷ []
 
--- the labels of the list of that number, 1 to 10; a label's number is its place in the list
+-- the labels of the list of that number; a label's number is its place in the list
 unfoldable pub label_list : ℕ → List (List ℕ)
 label_list n =
-    if n == 1 then when_disabled else
-    (if n == 2 then edges else
-    (if n == 3 then first_pulses else
-    (if n == 4 then seq_states else
-    (if n == 5 then relations else
-    (if n == 6 then directions else
-    (if n == 7 then pcomp_states else
-    (if n == 8 then position_captures else
-    (if n == 9 then own_captures else
-    (if n == 10 then time_units else [])))))))))
+    if n == label_lists.WHEN_DISABLED then when_disabled else
+    (if n == label_lists.EDGE then edges else
+    (if n == label_lists.FIRST_PULSE then first_pulses else
+    (if n == label_lists.SEQ_STATE then seq_states else
+    (if n == label_lists.RELATIVE then relations else
+    (if n == label_lists.DIRECTION then directions else
+    (if n == label_lists.PCOMP_STATE then pcomp_states else
+    (if n == label_lists.POSITION_CAPTURE then position_captures else
+    (if n == label_lists.FIELD_CAPTURE then own_captures else
+    (if n == label_lists.TIME_UNITS then time_units else [])))))))))
 
 -- the numbers of a block's instances as they are written, from 1
 abbrev pub numbers : ℕ → List (List ℕ)
@@ -96,11 +99,12 @@ position_names =
     names (codes "INENC") (numbers 4) (codes "VAL" ∷ [])
     ++ names (codes "COUNTER") (numbers 8) (codes "OUT" ∷ [])
 
--- the label of what a bit mux selects: 128 is ZERO, 129 is ONE, and each other number its bit entry
+-- the label of what a bit mux selects: ZERO, ONE, or the bit entry of that number
 abbrev pub bit_mux_label : ℕ → Option (List ℕ)
 bit_mux_label raw =
-    if raw == 128 then Some (codes "ZERO") else (if raw == 129 then Some (codes "ONE") else slice_get bit_names raw)
+    if raw == bit_bus.ZERO then Some (codes "ZERO")
+    else (if raw == bit_bus.ONE then Some (codes "ONE") else slice_get bit_names raw)
 
--- the label of what a position mux selects: 32 is ZERO, and each other number its position entry
+-- the label of what a position mux selects: ZERO, or the position entry of that number
 abbrev pub position_mux_label : ℕ → Option (List ℕ)
-position_mux_label raw = if raw == 32 then Some (codes "ZERO") else slice_get position_names raw
+position_mux_label raw = if raw == position_bus.ZERO then Some (codes "ZERO") else slice_get position_names raw

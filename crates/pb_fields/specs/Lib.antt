@@ -6,10 +6,12 @@ pub mod Places
 pub mod Slots
 pub mod Names
 pub mod Finding
+pub mod Missing
 pub mod Order
 pub mod Entries
 pub mod Runs
 pub mod Labels
+pub mod Numbered
 pub mod Values
 pub mod Spelling
 pub mod Spelled

@@ -2,6 +2,8 @@
 -- the blocks of the catalogue.
 use Rattle.std.specs.Prelude.{zero, suc, ◌≡◌, ◌⊎◌, ℕ, ◌+◌, ◌<◌, List, [], ◌∷◌, length, Option, Some, None, if◌then◌else◌, nat_lt, map}
 use Rattle.std.specs.List.{flat_map, range_with_len}
+use Rattle.pb_names.specs.declared.TheConstants.{BLOCKS, ITSELF}
+use Rattle.pb_names.specs.declared.ttlin.TheConstants as ttlin
 use Rattle.pb_fields.specs.declared.slots.Slot.{Slot}
 use Rattle.pb_fields.specs.Types.{attributes_of}
 use Rattle.pb_fields.specs.Places.{count_of, fields_of, type_of}
@@ -12,23 +14,23 @@ slot_at b i f a = record { block = b; instance = i; field = f; attr = a }
 
 -- the first slot of all
 abbrev pub first_slot : Slot
-first_slot = slot_at 0 1 0 0
+first_slot = slot_at ttlin.BLOCK 1 ttlin.VAL ITSELF
 
 -- the slot after this one
-abbrev pub slot_after : Slot → Option Slot
-slot_after slot =
+abbrev pub next_slot : Slot → Option Slot
+next_slot slot =
     if nat_lt slot.attr (length (attributes_at slot)) then
     Some (slot_at slot.block slot.instance slot.field (slot.attr + 1))
     else (if nat_lt (slot.field + 1) (length (fields_of slot.block)) then
-    Some (slot_at slot.block slot.instance (slot.field + 1) 0)
+    Some (slot_at slot.block slot.instance (slot.field + 1) ITSELF)
     else (if nat_lt slot.instance (count_of slot.block) then
-    Some (slot_at slot.block (slot.instance + 1) 0 0)
-    else (if nat_lt (slot.block + 1) 12 then Some (slot_at (slot.block + 1) 1 0 0) else None)))
+    Some (slot_at slot.block (slot.instance + 1) 0 ITSELF)
+    else (if nat_lt (slot.block + 1) BLOCKS then Some (slot_at (slot.block + 1) 1 0 ITSELF) else None)))
 
 -- the slot that follows: the first after none
 abbrev pub following_of : Option Slot → Option Slot
 following_of None = Some first_slot
-following_of (Some slot) = slot_after slot
+following_of (Some slot) = next_slot slot
 
 -- the slots of the catalogue in their order
 abbrev pub slots_of_field : ℕ → ℕ → ℕ → List Slot
@@ -41,13 +43,13 @@ abbrev pub slots_of_block : ℕ → List Slot
 slots_of_block b = flat_map (slots_of_instance b) (range_with_len 1 (count_of b))
 
 unfoldable pub slots : List Slot
-slots = flat_map slots_of_block (range_with_len 0 12)
+slots = flat_map slots_of_block (range_with_len 0 BLOCKS)
 
 -- a slot and those that follow it, so many of them at most
 abbrev pub visits : ℕ → Option Slot → List Slot
 visits n None = []
 visits zero (Some slot) = []
-visits (suc n) (Some slot) = slot ∷ visits n (slot_after slot)
+visits (suc n) (Some slot) = slot ∷ visits n (next_slot slot)
 
 -- one slot stands before another
 abbrev pub Precedes : Slot → Slot → Type 0

@@ -18,7 +18,7 @@ fields_of b = (block_of b).fields
 
 -- the row of a field; beyond the last field there is none, and its row has no name
 abbrev pub field_of : ℕ → ℕ → FieldRow
-field_of b f = slice_index_or (fields_of b) f (field [] types.Table)
+field_of b f = slice_index_or (fields_of b) f (field [] types.Table 0)
 
 -- the type of a field
 abbrev pub type_of : ℕ → ℕ → FieldType

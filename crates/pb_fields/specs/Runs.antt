@@ -1,3 +1,4 @@
+-- Words of private helpers: no public clause cites them.
 -- The table of runs in the source: what is found in it.
 use Rattle.std.specs.Prelude.{ℕ, ◌≤◌, ◌==◌, ◌&&◌, Option, nat_le, find}
 use Rattle.pb_fields.specs.declared.entries.Run.{Run}

@@ -9,6 +9,8 @@ use Rattle.pb_words.specs.Numbers.{value_of}
 use Rattle.pb_words.specs.Signed.{Int, int_value, int_of, is_uint, most}
 use Rattle.pb_words.specs.Decimals.{Decimal, decimal_value, decimal_of}
 use Rattle.pb_lut.specs.Computed.{function_of}
+use Rattle.pb_names.specs.declared.bit_bus.TheConstants as bit_bus
+use Rattle.pb_names.specs.declared.position_bus.TheConstants as position_bus
 use Rattle.pb_fields.specs.declared.kinds.FieldKind.{FieldKind}
 use Rattle.pb_fields.specs.declared.kinds.FieldKind.TheVariants as kinds
 use Rattle.pb_fields.specs.Labels.{label_list, bit_names, position_names}
@@ -63,8 +65,9 @@ spelled kinds.Int text = read_as int_spelled (int_of text)
 spelled kinds.Bit text = uint_spelled 1 text
 spelled (kinds.Enum labels) text = known (place_in (label_list labels) text)
 spelled kinds.BitMux text =
-    known (or_else_in (codes "ZERO") 128 (or_else_in (codes "ONE") 129 (place_in bit_names text) text) text)
-spelled kinds.PosMux text = known (or_else_in (codes "ZERO") 32 (place_in position_names text) text)
+    known
+    (or_else_in (codes "ZERO") bit_bus.ZERO (or_else_in (codes "ONE") bit_bus.ONE (place_in bit_names text) text) text)
+spelled kinds.PosMux text = known (or_else_in (codes "ZERO") position_bus.ZERO (place_in position_names text) text)
 spelled kinds.Decimal text = read_as decimal_spelled (decimal_of text)
 spelled (kinds.Time limit units) text = read_as (time_spelled limit units) (decimal_of text)
 spelled kinds.Lut text = read_as (λ n. Ok n) (function_of text)

@@ -1,3 +1,4 @@
+-- Words of private helpers: no public clause cites them.
 -- How the faults of numbers are refused.
 use Rattle.pb_words.specs.declared.NumFault.{NumFault}
 use Rattle.pb_words.specs.declared.NumFault.TheVariants as faults

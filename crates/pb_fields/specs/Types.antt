@@ -1,5 +1,8 @@
 -- The types of fields, and for each type its attributes, its kind of value and its role.
 use Rattle.std.specs.Prelude.{ℕ, Bool, true, false, List, [], ◌∷◌, codes}
+use Rattle.pb_names.specs.declared.label_lists.TheConstants as label_lists
+use Rattle.pb_names.specs.declared.time_units.TheConstants as time_units
+use Rattle.pb_names.specs.declared.bit_bus.TheConstants as bit_bus
 use Rattle.pb_fields.specs.declared.kinds.FieldKind.{FieldKind}
 use Rattle.pb_fields.specs.declared.kinds.FieldKind.TheVariants as kinds
 use Rattle.pb_fields.specs.declared.roles.Role.{Role}
@@ -75,7 +78,7 @@ field_kind types.ParamLut = kinds.Lut
 field_kind types.ReadUint = kinds.Uint word_max
 field_kind (types.ReadEnum labels) = kinds.Enum labels
 field_kind types.WriteAction = kinds.Action
-field_kind (types.Time limit) = kinds.Time limit 0
+field_kind (types.Time limit) = kinds.Time limit time_units.S
 field_kind types.BitOut = kinds.Bit
 field_kind types.PosOut = kinds.Int
 field_kind types.ExtOut = kinds.Text
@@ -117,24 +120,29 @@ attribute_kind attributes.Info t = kinds.Text
 attribute_kind attributes.Max t = kinds.Uint (limit_of t)
 attribute_kind attributes.Labels t = kinds.Text
 attribute_kind attributes.LutRaw t = kinds.Lut
-attribute_kind attributes.TimeUnits t = kinds.Enum 10
+attribute_kind attributes.TimeUnits t = kinds.Enum label_lists.TIME_UNITS
 attribute_kind attributes.TimeRaw t = kinds.Uint (limit_of t)
 attribute_kind attributes.CaptureWord t = kinds.Text
 attribute_kind attributes.BitOffset t = kinds.Uint 31
-attribute_kind attributes.PosCapture t = kinds.Enum 8
+attribute_kind attributes.PosCapture t = kinds.Enum label_lists.POSITION_CAPTURE
 attribute_kind attributes.Offset t = kinds.Decimal
 attribute_kind attributes.Scale t = kinds.Decimal
 attribute_kind attributes.Units t = kinds.Text
 attribute_kind attributes.Scaled t = kinds.Text
-attribute_kind attributes.ExtCapture t = kinds.Enum 9
+attribute_kind attributes.ExtCapture t = kinds.Enum label_lists.FIELD_CAPTURE
 attribute_kind attributes.Bits t = kinds.Text
-attribute_kind attributes.Delay t = kinds.Uint 31
-attribute_kind attributes.MaxDelay t = kinds.Uint 31
+attribute_kind attributes.Delay t = kinds.Uint bit_bus.MAX_DELAY
+attribute_kind attributes.MaxDelay t = kinds.Uint bit_bus.MAX_DELAY
 attribute_kind attributes.MaxLength t = kinds.Uint 16384
 attribute_kind attributes.Length t = kinds.Uint 16384
 attribute_kind attributes.RowWords t = kinds.Uint 4
 attribute_kind attributes.Fields t = kinds.Text
 attribute_kind attributes.Base64 t = kinds.Text
+
+-- the raw value that an attribute has at first: SCALE is 1, in billionths
+abbrev pub attribute_default : Attribute → ℕ
+attribute_default attributes.Scale = 1000000000
+attribute_default _ = 0
 
 -- a control line can assign the attribute
 abbrev pub is_assigned : Attribute → Bool

@@ -1,6 +1,6 @@
 -- The values of fields: which text spells which raw value of a kind, why a text is refused, and what
 -- is printed of a raw value.
-use Rattle.std.specs.Prelude.{◌≡◌, ⊤, ℕ, ◌+◌, ◌*◌, ◌/◌, ◌^◌, ◌<◌, ◌≤◌, ◌⊎◌, List, [], length, ℤ, pos, negsuc, unsigned_abs, FitsSigned, Some, IsSome, slice_get, decimal}
+use Rattle.std.specs.Prelude.{◌≡◌, ⊤, ℕ, ◌+◌, ◌*◌, ◌/◌, ◌^◌, ◌<◌, ◌≤◌, ◌⊎◌, Bool, if◌then◌else◌, List, [], length, ℤ, pos, negsuc, unsigned_abs, FitsSigned, Some, IsSome, slice_get, decimal}
 use Rattle.std.specs.Option.{unwrap_or}
 use Rattle.std.specs.Fmt.{signed_decimal}
 use Rattle.std.specs.Int.{w32, w64, cast_unsigned, cast_signed}
@@ -14,6 +14,16 @@ use Rattle.pb_lut.specs.Functions.{WritesFunction}
 use Rattle.pb_fields.specs.declared.kinds.FieldKind.{FieldKind}
 use Rattle.pb_fields.specs.declared.kinds.FieldKind.TheVariants as kinds
 use Rattle.pb_fields.specs.Labels.{label_list, bit_mux_label, position_mux_label}
+
+-- Outputs.
+
+-- the raw value of a bit
+abbrev pub bit_raw : Bool → ℕ
+bit_raw bit = if bit then 1 else 0
+
+-- the raw value of a whole number, which is the number modulo 2^64
+abbrev pub int_raw : ℤ → ℕ
+int_raw value = cast_unsigned w64 value
 
 -- Times.
 
@@ -41,7 +51,7 @@ IsNoTime limit units (negsuc n) = ⊤
 abbrev pub Spells : FieldKind → List ℕ → ℕ → Type 0
 Spells (kinds.Uint limit) text raw = WritesNumber text raw × (raw ≤ limit)
 Spells kinds.Int text raw =
-    (i : Int) × WritesInt text i × FitsSigned w32 (int_value i) × (cast_unsigned w64 (int_value i) ≡ raw)
+    (i : Int) × WritesInt text i × FitsSigned w32 (int_value i) × (int_raw (int_value i) ≡ raw)
 Spells kinds.Bit text raw = WritesNumber text raw × (raw ≤ 1)
 Spells (kinds.Enum labels) text raw = slice_get (label_list labels) raw ≡ Some text
 Spells kinds.BitMux text raw = bit_mux_label raw ≡ Some text

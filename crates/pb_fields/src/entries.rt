@@ -1,12 +1,16 @@
 ghost use Rattle.std.specs.Prelude.{◌≡◌, ◌<◌, ◌≤◌, ◌==◌, ◌&&◌, nat_le, find, IfSome};
-ghost use Rattle.pb_fields.specs.Entries.{entry_of, at_entry_of};
+ghost use Rattle.pb_fields.specs.Entries.{entry_of, output_entry, at_entry_of};
 ghost use Rattle.pb_fields.specs.Slots.{IsSlot};
 ghost use Rattle.pb_fields.specs.Runs.{run_with, run_around, IsAround};
 
 use crate::slots::Slot;
+use pb_names::{
+    ITSELF, bits, clock, counter, div, inenc, lut, pcap, pcomp, position_bus, pulse, seq, srgate,
+    ttlin,
+};
 
 /// The outputs of a block that drive a run of entries: for each instance in turn the fields from
-/// `field` on, `outputs` of them. The positions are counted from 128.
+/// `field` on, `outputs` of them.
 #[derive(Clone, Copy)]
 pub(crate) struct Run {
     pub first: u8,
@@ -33,121 +37,108 @@ impl Run {
 
 /// The runs of both buses.
 pub(crate) static RUNS: [Run; 13] = [
-    // TTLIN
     Run {
         first: 0,
         last: 5,
-        block: 0,
-        field: 0,
-        last_field: 0,
+        block: ttlin::BLOCK,
+        field: ttlin::VAL,
+        last_field: ttlin::VAL,
         outputs: 1,
     },
-    // LUT
     Run {
         first: 6,
         last: 13,
-        block: 3,
-        field: 6,
-        last_field: 6,
+        block: lut::BLOCK,
+        field: lut::OUT,
+        last_field: lut::OUT,
         outputs: 1,
     },
-    // SRGATE
     Run {
         first: 14,
         last: 17,
-        block: 4,
-        field: 8,
-        last_field: 8,
+        block: srgate::BLOCK,
+        field: srgate::OUT,
+        last_field: srgate::OUT,
         outputs: 1,
     },
-    // DIV
     Run {
         first: 18,
         last: 25,
-        block: 5,
-        field: 5,
-        last_field: 6,
+        block: div::BLOCK,
+        field: div::OUTD,
+        last_field: div::OUTN,
         outputs: 2,
     },
-    // PULSE
     Run {
         first: 26,
         last: 29,
-        block: 6,
-        field: 9,
-        last_field: 9,
+        block: pulse::BLOCK,
+        field: pulse::OUT,
+        last_field: pulse::OUT,
         outputs: 1,
     },
-    // COUNTER
     Run {
         first: 30,
         last: 37,
-        block: 7,
-        field: 7,
-        last_field: 7,
+        block: counter::BLOCK,
+        field: counter::CARRY,
+        last_field: counter::CARRY,
         outputs: 1,
     },
-    // CLOCK
     Run {
         first: 38,
         last: 39,
-        block: 8,
-        field: 3,
-        last_field: 3,
+        block: clock::BLOCK,
+        field: clock::OUT,
+        last_field: clock::OUT,
         outputs: 1,
     },
-    // SEQ
     Run {
         first: 40,
         last: 53,
-        block: 9,
-        field: 14,
-        last_field: 20,
+        block: seq::BLOCK,
+        field: seq::OUTA,
+        last_field: seq::ACTIVE,
         outputs: 7,
     },
-    // PCOMP
     Run {
         first: 54,
         last: 57,
-        block: 10,
-        field: 11,
-        last_field: 12,
+        block: pcomp::BLOCK,
+        field: pcomp::OUT,
+        last_field: pcomp::ACTIVE,
         outputs: 2,
     },
-    // PCAP
     Run {
         first: 58,
         last: 58,
-        block: 11,
-        field: 12,
-        last_field: 12,
+        block: pcap::BLOCK,
+        field: pcap::ACTIVE,
+        last_field: pcap::ACTIVE,
         outputs: 1,
     },
-    // BITS
     Run {
         first: 59,
         last: 62,
-        block: 2,
-        field: 4,
-        last_field: 7,
+        block: bits::BLOCK,
+        field: bits::OUTA,
+        last_field: bits::OUTD,
         outputs: 4,
     },
-    // INENC
     Run {
-        first: 128,
-        last: 131,
-        block: 1,
-        field: 0,
-        last_field: 0,
+        first: position_bus::FIRST,
+        last: position_bus::FIRST + 3,
+        block: inenc::BLOCK,
+        field: inenc::VAL,
+        last_field: inenc::VAL,
         outputs: 1,
     },
-    // COUNTER
     Run {
-        first: 132,
-        last: 139,
-        block: 7,
-        field: 8,
-        last_field: 8,
+        first: position_bus::FIRST + 4,
+        last: position_bus::FIRST + 11,
+        block: counter::BLOCK,
+        field: counter::OUT,
+        last_field: counter::OUT,
         outputs: 1,
     },
 ];
@@ -157,13 +148,25 @@ pub fn entry(slot: Slot) -> Option<u8>
     requires { IsSlot slot }
     ensures { result ≡ entry_of slot }
 {
-    if slot.attr != 0 {
+    if slot.attr != ITSELF {
         return None;
     }
     match run_with(slot.block, slot.field) {
         Some(run) => Some(run.first + (slot.instance - 1) * run.outputs + (slot.field - run.field)),
         None => None,
     }
+}
+
+/// The bus entry that the slot's field drives, whichever of its attributes the slot is; 0 where it drives none.
+pub fn output_entry(slot: Slot) -> u8
+    requires { IsSlot slot }
+    ensures { result ≡ output_entry slot }
+{
+    entry(Slot {
+        attr: ITSELF,
+        ..slot
+    })
+    .unwrap_or(0)
 }
 
 /// The output that drives that bus entry; none where the entry is unused.
@@ -178,7 +181,7 @@ pub fn at_entry(entry: u8) -> Option<Slot>
                 block: run.block,
                 instance: place / run.outputs + 1,
                 field: run.field + place % run.outputs,
-                attr: 0,
+                attr: ITSELF,
             })
         }
         None => None,

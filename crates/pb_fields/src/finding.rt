@@ -4,6 +4,7 @@ ghost use Rattle.std.specs.List.{position_or_len, list_all};
 ghost use Rattle.std.specs.Cmp.Lexicographic.{pointwise};
 ghost use Rattle.std.proofs.Props.{props};
 ghost use Rattle.std.specs.Char.{is_ascii_digit};
+ghost use Rattle.pb_names.specs.declared.TheConstants.{BLOCKS};
 ghost use Rattle.pb_fields.specs.Finding.{is_point, before_point, after_point, block_with, block_named, instance_numbered, field_named, attribute_named, found_of, block_found, number_of, stem_of};
 ghost use Rattle.pb_fields.specs.BlockNames.{block_places, place_named};
 ghost use Rattle.pb_fields.specs.Places.{count_of, fields_of, type_of};
@@ -14,6 +15,7 @@ use crate::slots::Slot;
 use crate::tables::{Field, block_at, field_at};
 use crate::types::{Attribute, attribute_name, attributes};
 use indexmap::IndexMap;
+use pb_names::{BLOCKS, ITSELF};
 use pb_words::{OutOfMemory, Refusal};
 use std::alloc::Global;
 
@@ -66,7 +68,7 @@ impl Catalog {
     /// The place of the block that is named, with a number or without one.
     pub fn block(&self, name: &[u8]) -> Result<u8, Refusal>
         ensures found { result ≡ block_found name.now }
-        ensures block { IfOk result (λ block. block < 12) }
+        ensures block { IfOk result (λ block. block < BLOCKS) }
     {
         let Some(block) = self.block_named(name) else {
             return Err(Refusal::NoSuchBlock);
@@ -84,7 +86,7 @@ impl Catalog {
     /// The block that is named, with digits after it or with none.
     fn block_named(&self, name: &[u8]) -> Option<u8>
         ensures named { result ≡ block_named name.now }
-        ensures block { IfSome result (λ block. block < 12) }
+        ensures block { IfSome result (λ block. block < BLOCKS) }
     {
         if are_digits(number_of(name)) {
             self.block_with(&name[..stem_len(name)])
@@ -96,7 +98,7 @@ impl Catalog {
     /// The place of the block with this name.
     fn block_with(&self, stem: &[u8]) -> Option<u8>
         ensures named { result ≡ block_with stem.now }
-        ensures block { IfSome result (λ block. block < 12) }
+        ensures block { IfSome result (λ block. block < BLOCKS) }
     {
         self.names.get(stem).copied()
     }
@@ -106,8 +108,8 @@ impl Catalog {
 fn named_blocks(alloc: Global) -> Result<IndexMap<&'static [u8], u8>, OutOfMemory>
     ensures { IfOk result (λ names. map place_named names.entries ≡ block_places) }
 {
-    let mut names = IndexMap::with_capacity(alloc, 12)?;
-    for block in 0..12 {
+    let mut names = IndexMap::with_capacity(alloc, BLOCKS as usize)?;
+    for block in 0..BLOCKS {
         names.insert(block_at(block).0, block)?;
     }
     Ok(names)
@@ -180,7 +182,7 @@ fn instance_numbered(count: u8, number: &[u8]) -> Option<u8>
 
 /// The field of that name.
 fn field_named(block: u8, name: &[u8]) -> Option<u8>
-    requires { block < 12 }
+    requires { block < BLOCKS }
     ensures named { result ≡ field_named block name.now }
     ensures field { IfSome result (λ field. field < length (fields_of block)) }
 {
@@ -197,15 +199,15 @@ fn first_field(rows: &[Field], name: &[u8]) -> Option<usize>
     rows.iter().position(|row| row.0 == name)
 }
 
-/// The attribute of that name, counted from 1; 0 where none is named.
+/// The attribute of that name, counted from 1; the field itself where none is named.
 fn attribute_named(block: u8, field: u8, name: Option<&[u8]>) -> Option<u8>
-    requires block { block < 12 }
+    requires block { block < BLOCKS }
     requires field { field < length (fields_of block) }
     ensures named { result ≡ attribute_named block field (option_copied name.entry) }
     ensures attribute { IfSome result (λ attr. attr ≤ length (attributes_of (type_of block field))) }
 {
     let Some(name) = name else {
-        return Some(0);
+        return Some(ITSELF);
     };
     match first_attribute(attributes(field_at(block, field).1), name) {
         Some(place) => Some(place as u8 + 1),

@@ -2,6 +2,8 @@ ghost use Rattle.std.specs.Prelude.{◌≡◌, ◌≢◌, ℕ, ◌<◌, ◌≤�
 ghost use Rattle.std.specs.List.{list_all};
 ghost use Rattle.pb_fields.specs.Labels.{label_list, bit_names, position_names, bit_mux_label, position_mux_label};
 
+use pb_names::{bit_bus, label_lists, position_bus};
+
 static WHEN_DISABLED: [&str; 3] = ["Set output low", "Set output high", "Keep current output"];
 
 static EDGES: [&str; 3] = ["Rising", "Falling", "Either"];
@@ -117,11 +119,14 @@ static POSITION_NAMES: [&str; 12] = [
     "COUNTER8.OUT",
 ];
 
-const BIT_ZERO: u64 = 128;
+/// The raw value of a bit mux that selects ZERO.
+pub(crate) const BIT_ZERO: u64 = bit_bus::ZERO as u64;
 
-const BIT_ONE: u64 = 129;
+/// The raw value of a bit mux that selects ONE.
+pub(crate) const BIT_ONE: u64 = bit_bus::ONE as u64;
 
-const POSITION_ZERO: u64 = 32;
+/// The raw value of a position mux that selects ZERO.
+pub(crate) const POSITION_ZERO: u64 = position_bus::ZERO as u64;
 
 /// The number of labels in the list of that number; 0 where there is no such list.
 pub fn label_count(labels: u8) -> u8
@@ -138,16 +143,16 @@ pub fn label_texts(labels: u8) -> &'static [&'static str]
     ensures short { IsTrue (list_all (λ s. nat_le (length s.now) 64) result.now) }
 {
     match labels {
-        1 => &WHEN_DISABLED,
-        2 => &EDGES,
-        3 => &FIRST_PULSES,
-        4 => &SEQ_STATES,
-        5 => &RELATIONS,
-        6 => &DIRECTIONS,
-        7 => &PCOMP_STATES,
-        8 => &POSITION_CAPTURES,
-        9 => &OWN_CAPTURES,
-        10 => &TIME_UNITS,
+        label_lists::WHEN_DISABLED => &WHEN_DISABLED,
+        label_lists::EDGE => &EDGES,
+        label_lists::FIRST_PULSE => &FIRST_PULSES,
+        label_lists::SEQ_STATE => &SEQ_STATES,
+        label_lists::RELATIVE => &RELATIONS,
+        label_lists::DIRECTION => &DIRECTIONS,
+        label_lists::PCOMP_STATE => &PCOMP_STATES,
+        label_lists::POSITION_CAPTURE => &POSITION_CAPTURES,
+        label_lists::FIELD_CAPTURE => &OWN_CAPTURES,
+        label_lists::TIME_UNITS => &TIME_UNITS,
         _ => &[],
     }
 }

@@ -10,9 +10,9 @@ mod finding;
 mod kinds;
 mod labels;
 mod laws;
-mod lines;
 mod names;
 mod orders;
+mod places;
 mod roles;
 mod showing;
 mod slots;
@@ -21,29 +21,30 @@ mod tables;
 mod types;
 mod values;
 
-pub use entries::{at_entry, entry};
+pub use entries::{at_entry, entry, output_entry};
 pub use finding::Catalog;
 pub use kinds::FieldKind;
 pub use labels::label_count;
 pub use laws::{
-    entries_and_outputs_belong_to_each_other, following_visits_every_slot_once, labels_are_names,
+    blocks_are_refused_by_their_names, entries_and_outputs_belong_to_each_other,
+    following_visits_every_slot_once, labels_are_names, targets_are_refused_by_their_names,
     targets_name_their_slots,
 };
 pub use names::name;
 pub use orders::following;
+pub use places::{
+    attributes_have_their_places, blocks_have_their_places, buses_have_their_entries,
+    fields_have_their_places, labels_have_their_numbers,
+};
 pub use roles::Role;
 pub use showing::show;
 pub use slots::{
-    Slot, attribute, block_name, field_count, field_name, field_type, instances, kind, role,
+    Slot, attribute, block_name, default_value, field_count, field_name, field_type, instances,
+    kind, role,
 };
 pub use spelling::spell;
 pub use types::{Attribute, FieldType, attribute_name, attributes, is_assigned, type_name};
 pub use values::{
-    printed_values_are_spelled, selections_are_small, texts_are_refused_once, values_are_computed,
-    values_are_spelled_once, values_by_example,
+    bit_raw, int_raw, printed_values_are_spelled, selections_are_small, texts_are_refused_once,
+    values_are_computed, values_are_spelled_once, values_by_example,
 };
-
-#[cfg(test)]
-mod tests;
-#[cfg(test)]
-mod values_tests;

@@ -1,11 +1,15 @@
 ghost use Rattle.std.specs.Prelude.{◌≡◌, ◌<◌, ◌≤◌, ◌++◌, length, drop};
+ghost use Rattle.pb_names.specs.declared.TheConstants.{BLOCKS};
 ghost use Rattle.pb_fields.specs.Places.{block_of, count_of, field_of, fields_of};
-ghost use Rattle.pb_fields.specs.Slots.{IsSlot, kind_of, role_at, type_at, attribute_at};
+ghost use Rattle.pb_fields.specs.Slots.{IsSlot, kind_of, role_at, type_at, attribute_at, default_of};
 
 use crate::kinds::FieldKind;
 use crate::roles::Role;
 use crate::tables::{block_at, field_at};
-use crate::types::{Attribute, FieldType, attribute_kind, attributes, field_kind, field_role};
+use crate::types::{
+    Attribute, FieldType, attribute_default, attribute_kind, attributes, field_kind, field_role,
+};
+use pb_names::{BLOCKS, ITSELF};
 use pb_words::put_front;
 
 /// One field or one attribute of the catalogue.
@@ -17,13 +21,13 @@ pub struct Slot {
     pub instance: u8,
     /// The place of the field in its block, from 0.
     pub field: u8,
-    /// 0 for the field itself, else the place of the attribute in the list of its type, from 1.
+    /// `ITSELF` for the field itself, else the place of the attribute in the list of its type, from 1.
     pub attr: u8,
 }
 
 /// Writes the block's name without a number at the front of `out`, and answers its length.
 pub fn block_name(block: u8, out: &mut [u8]) -> usize
-    requires block { block < 12 }
+    requires block { block < BLOCKS }
     requires room { 64 ≤ length out.old }
     ensures len { result ≡ length (block_of block).name }
     ensures written { out.new ≡ (block_of block).name ++ drop (length (block_of block).name) out.old }
@@ -33,7 +37,7 @@ pub fn block_name(block: u8, out: &mut [u8]) -> usize
 
 /// How many instances of the block there are.
 pub fn instances(block: u8) -> u8
-    requires { block < 12 }
+    requires { block < BLOCKS }
     ensures { result ≡ count_of block }
 {
     block_at(block).1
@@ -41,7 +45,7 @@ pub fn instances(block: u8) -> u8
 
 /// How many fields the block has.
 pub fn field_count(block: u8) -> u8
-    requires { block < 12 }
+    requires { block < BLOCKS }
     ensures { result ≡ length (fields_of block) }
 {
     block_at(block).2.len() as u8
@@ -63,7 +67,7 @@ pub fn role(slot: Slot) -> Role
     requires { IsSlot slot }
     ensures { result ≡ role_at slot }
 {
-    if slot.attr == 0 {
+    if slot.attr == ITSELF {
         field_role(field_type(slot))
     } else {
         Role::Attr
@@ -91,9 +95,27 @@ pub fn attribute(slot: Slot) -> Option<Attribute>
     requires { IsSlot slot }
     ensures { result ≡ attribute_at slot }
 {
-    if slot.attr == 0 {
+    if slot.attr == ITSELF {
         None
     } else {
         Some(attributes(field_type(slot))[slot.attr as usize - 1])
+    }
+}
+
+/// The raw value that the slot has at first; 0 where the catalogue has no such slot.
+#[tactic(auto, using(crate::proofs::DefaultLemmas::defaults))]
+pub fn default_value(slot: Slot) -> u64
+    ensures { result ≡ default_of slot }
+{
+    if slot.block >= BLOCKS || slot.field >= field_count(slot.block) {
+        return 0;
+    }
+    let field = field_at(slot.block, slot.field);
+    if slot.attr == ITSELF {
+        return field.2;
+    }
+    match attributes(field.1).get(slot.attr as usize - 1) {
+        Some(attribute) => attribute_default(*attribute),
+        None => 0,
     }
 }

@@ -1,8 +1,9 @@
 ghost use Rattle.std.specs.Prelude.{◌≡◌, ◌≤◌, length};
-ghost use Rattle.pb_fields.specs.Types.{attributes_of, field_kind, role_of, attribute_text, attribute_kind, limit_of, is_assigned, type_text};
+ghost use Rattle.pb_fields.specs.Types.{attributes_of, attribute_default, field_kind, role_of, attribute_text, attribute_kind, limit_of, is_assigned, type_text};
 
 use crate::kinds::FieldKind;
 use crate::roles::Role;
+use pb_names::{bit_bus, label_lists, time_units};
 
 /// The type of a field, with its subtype.
 #[derive(Clone, Copy, Debug, PartialEq, Eq)]
@@ -186,7 +187,10 @@ pub(crate) fn field_kind(of: FieldType) -> FieldKind
         }
         FieldType::ParamLut => FieldKind::Lut,
         FieldType::WriteAction => FieldKind::Action,
-        FieldType::Time { limit } => FieldKind::Time { limit, units: 0 },
+        FieldType::Time { limit } => FieldKind::Time {
+            limit,
+            units: time_units::S,
+        },
         FieldType::BitMux => FieldKind::BitMux,
         FieldType::PosMux => FieldKind::PosMux,
         FieldType::ExtOut | FieldType::BitWord | FieldType::Table => FieldKind::Text,
@@ -230,15 +234,32 @@ pub(crate) fn attribute_kind(attribute: Attribute, of: FieldType) -> FieldKind
         | Attribute::Base64 => FieldKind::Text,
         Attribute::Max | Attribute::TimeRaw => FieldKind::Uint { limit: limit(of) },
         Attribute::LutRaw => FieldKind::Lut,
-        Attribute::TimeUnits => FieldKind::Enum { labels: 10 },
-        Attribute::BitOffset | Attribute::Delay | Attribute::MaxDelay => FieldKind::Uint {
-            limit: 31,
+        Attribute::TimeUnits => FieldKind::Enum {
+            labels: label_lists::TIME_UNITS,
         },
-        Attribute::PosCapture => FieldKind::Enum { labels: 8 },
-        Attribute::ExtCapture => FieldKind::Enum { labels: 9 },
+        Attribute::BitOffset => FieldKind::Uint { limit: 31 },
+        Attribute::Delay | Attribute::MaxDelay => FieldKind::Uint {
+            limit: bit_bus::MAX_DELAY as u64,
+        },
+        Attribute::PosCapture => FieldKind::Enum {
+            labels: label_lists::POSITION_CAPTURE,
+        },
+        Attribute::ExtCapture => FieldKind::Enum {
+            labels: label_lists::FIELD_CAPTURE,
+        },
         Attribute::Offset | Attribute::Scale => FieldKind::Decimal,
         Attribute::MaxLength | Attribute::Length => FieldKind::Uint { limit: 16384 },
         Attribute::RowWords => FieldKind::Uint { limit: 4 },
+    }
+}
+
+/// The raw value that an attribute has at first: SCALE is 1, in billionths.
+pub(crate) fn attribute_default(attribute: Attribute) -> u64
+    ensures { result ≡ attribute_default attribute }
+{
+    match attribute {
+        Attribute::Scale => 1_000_000_000,
+        _ => 0,
     }
 }
 

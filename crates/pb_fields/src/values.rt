@@ -1,5 +1,5 @@
-ghost use Rattle.std.specs.Prelude.{ℕ, ◌^◌, List, codes, ◌≡◌, ◌<◌, ◌≤◌, ◌↔◌, Ok, Err, IfSome, IfNone};
-ghost use Rattle.pb_fields.specs.Values.{Spells, Refuses, shown, IsShownKind, IsSpelledKind, IsRaw, tick_size, HasTicks, IsNoTime};
+ghost use Rattle.std.specs.Prelude.{ℕ, ◌^◌, List, codes, ◌≡◌, ◌<◌, ◌≤◌, ◌↔◌, ◌⊎◌, Ok, Err, IfSome, IfNone};
+ghost use Rattle.pb_fields.specs.Values.{Spells, Refuses, shown, IsShownKind, IsSpelledKind, IsRaw, bit_raw, int_raw, tick_size, HasTicks, IsNoTime};
 ghost use Rattle.pb_fields.specs.Spelled.{spelled};
 ghost use Rattle.pb_fields.specs.Types.{ticks_max};
 
@@ -18,6 +18,22 @@ pub fn tick_size(units: u8) -> u128
         1 => 8_000,
         _ => 8_000_000,
     }
+}
+
+/// The raw value of the level of an output.
+pub fn bit_raw(level: bool) -> u64
+    ensures raw { result ≡ bit_raw level }
+    ensures range { IsRaw FieldKind.Bit result }
+{
+    if level { 1 } else { 0 }
+}
+
+/// The raw value of a position.
+pub fn int_raw(value: i32) -> u64
+    ensures raw { result ≡ int_raw value }
+    ensures range { IsRaw FieldKind.Int result }
+{
+    i64::from(value).cast_unsigned()
 }
 
 /// The ticks of a time of that many billionths of the unit, unless it is below zero or its ticks
@@ -51,12 +67,14 @@ pub fn values_are_spelled_once()
     ensures { (kind : FieldKind) (text : List ℕ) (m n : ℕ) → Spells kind text m → Spells kind text n → m ≡ n }
 {}
 
-/// A text that spells a value isn't refused, and any other text is refused for one reason.
+/// A text either spells a value or is refused, and for one reason.
 pub fn texts_are_refused_once()
     ensures spelled { (kind : FieldKind) (text : List ℕ) (raw : ℕ) (refusal : Refusal)
         → Spells kind text raw → ¬ (Refuses kind text refusal) }
     ensures once { (kind : FieldKind) (text : List ℕ) (r s : Refusal)
         → Refuses kind text r → Refuses kind text s → r ≡ s }
+    ensures either { (kind : FieldKind) (text : List ℕ) → IsSpelledKind kind
+        → ((raw : ℕ) × Spells kind text raw) ⊎ ((refusal : Refusal) × Refuses kind text refusal) }
 {}
 
 /// The value that a text spells is the computed one, and so is the reason for which it is refused.

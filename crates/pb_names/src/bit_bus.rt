@@ -2,6 +2,8 @@
 
 /// How many entries there are.
 pub const WIDTH: u8 = 128;
+/// How many entries a word of the bus has.
+pub const WORD: u8 = 32;
 /// How many entries have a name; they come first, and the others are always 0.
 pub const USED: u8 = 63;
 /// The raw value of a bit input that selects ZERO.

@@ -4,6 +4,9 @@
 //! of pb_fields.
 #![tactic(auto)]
 
+/// How many blocks there are.
+pub const BLOCKS: u8 = 12;
+
 /// The attribute number of a field itself.
 pub const ITSELF: u8 = 0;
 

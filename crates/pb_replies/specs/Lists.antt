@@ -1,6 +1,8 @@
 -- What the catalogue answers in several lines.
 use Rattle.std.specs.Prelude.{ℕ, ◌+◌, ◌*◌, List, [], ◌∷◌, ◌++◌, map, slice_index_or, Option, Some, None, codes, decimal}
 use Rattle.std.specs.List.{range_with_len}
+use Rattle.pb_names.specs.declared.bit_bus.TheConstants as bit_bus
+use Rattle.pb_names.specs.declared.position_bus.TheConstants as position_bus
 use Rattle.pb_fields.specs.declared.Slot.{Slot}
 use Rattle.pb_fields.specs.declared.FieldKind.{FieldKind}
 use Rattle.pb_fields.specs.declared.FieldKind.TheVariants as kinds
@@ -50,13 +52,13 @@ labels_at slot = labels_of (kind_of slot)
 abbrev pub name_at : List (List ℕ) → ℕ → List ℕ
 name_at names i = slice_index_or names i []
 
--- the names of all 32 entries of the position bus
+-- the names of all entries of the position bus
 unfoldable pub position_lines : List (List ℕ)
-position_lines = map (name_at position_names) (range_with_len 0 32)
+position_lines = map (name_at position_names) (range_with_len 0 position_bus.WIDTH)
 
--- the names of the 32 bits of a word of the bit bus
+-- the names of the entries of a word of the bit bus
 unfoldable pub word_lines : ℕ → List (List ℕ)
-word_lines word = map (name_at bit_names) (range_with_len (32 * word) 32)
+word_lines word = map (name_at bit_names) (range_with_len (bit_bus.WORD * word) bit_bus.WORD)
 
 -- the fields of a row of a sequencer's table, by the place of their bits in the row
 unfoldable pub row_lines : List (List ℕ)

@@ -12,6 +12,3 @@ pub use lists::{
     row_reply, word_reply,
 };
 pub use replies::{empty_reply, value_reply};
-
-#[cfg(test)]
-mod tests;

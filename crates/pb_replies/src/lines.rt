@@ -1,6 +1,7 @@
-ghost use Rattle.std.specs.Prelude.{◌≡◌, ℕ, ◌+◌, ◌<◌, ◌≤◌, [], ◌++◌, length, map, replicate, decimal, is_some, true, OnOk};
+ghost use Rattle.std.specs.Prelude.{◌≡◌, ℕ, ◌+◌, ◌<◌, ◌≤◌, [], ◌++◌, length, map, replicate, is_some, true, OnOk};
 ghost use Rattle.std.specs.List.{flat_map, range_with_len};
 ghost use Rattle.std.specs.Option.{unwrap_or};
+ghost use Rattle.pb_names.specs.declared.TheConstants.{BLOCKS};
 ghost use Rattle.pb_fields.specs.Places.{block_of, field_of, fields_of};
 ghost use Rattle.pb_fields.specs.Values.{IsShownKind, IsRaw, shown};
 ghost use Rattle.pb_replies.specs.Replies.{listed};
@@ -10,26 +11,12 @@ use crate::replies::list;
 use pb_fields::{
     FieldKind, Slot, block_name, field_name, field_type, instances, label_count, show, type_name,
 };
-use pb_words::{OutOfMemory, Text, write_u64};
-
-/// How many entries the position bus has, and how many bits a word of the bit bus.
-pub(crate) const ENTRIES: u8 = 32;
-
-/// How many entries of the bit bus are used.
-pub(crate) const BITS: u8 = 63;
-
-/// How many entries of the position bus are used.
-pub(crate) const POSITIONS: u8 = 12;
-
-/// The raw value of a bit mux that selects ZERO; the one after it selects ONE.
-const BIT_ZERO: u8 = 128;
-
-/// The raw value of a position mux that selects ZERO.
-const POSITION_ZERO: u8 = 32;
+use pb_names::{ITSELF, bit_bus, position_bus};
+use pb_words::{OutOfMemory, Text};
 
 /// Adds the line of a block with its count.
 pub(crate) fn list_block(text: &mut Text, block: u8) -> Result<(), OutOfMemory>
-    requires { block < 12 }
+    requires { block < BLOCKS }
     ensures { OnOk result (text.new ≡ text.old ++ listed (block_line (block_of block))) }
 {
     let mut name = [0; 64];
@@ -37,13 +24,13 @@ pub(crate) fn list_block(text: &mut Text, block: u8) -> Result<(), OutOfMemory>
     text.append(b"!")?;
     text.append(&name[..len])?;
     text.append(b" ")?;
-    append_number(text, instances(block))?;
+    text.append_number(u64::from(instances(block)))?;
     text.append(b"\n")
 }
 
 /// Adds the line of a field with its place and its type.
 pub(crate) fn list_field(text: &mut Text, block: u8, field: u8) -> Result<(), OutOfMemory>
-    requires block { block < 12 }
+    requires block { block < BLOCKS }
     requires field { field < length (fields_of block) }
     ensures { OnOk result (text.new ≡ text.old ++ listed (field_line field (field_of block field))) }
 {
@@ -51,23 +38,15 @@ pub(crate) fn list_field(text: &mut Text, block: u8, field: u8) -> Result<(), Ou
         block,
         instance: 1,
         field,
-        attr: 0,
+        attr: ITSELF,
     };
     text.append(b"!")?;
     text.append(field_name(slot))?;
     text.append(b" ")?;
-    append_number(text, field)?;
+    text.append_number(u64::from(field))?;
     text.append(b" ")?;
     text.append(type_name(field_type(slot)))?;
     text.append(b"\n")
-}
-
-fn append_number(text: &mut Text, number: u8) -> Result<(), OutOfMemory>
-    ensures { OnOk result (text.new ≡ text.old ++ decimal number) }
-{
-    let mut digits = [0; 48];
-    let len = write_u64(u64::from(number), &mut digits);
-    text.append(&digits[..len])
 }
 
 /// Adds the lines of the labels of a kind that has labels.
@@ -78,12 +57,12 @@ pub(crate) fn list_labels(text: &mut Text, kind: FieldKind) -> Result<(), OutOfM
     match kind {
         FieldKind::Enum { labels } => list_shown(text, kind, 0, label_count(labels)),
         FieldKind::BitMux => {
-            list_shown(text, FieldKind::BitMux, BIT_ZERO, 2)?;
-            list_shown(text, FieldKind::BitMux, 0, BITS)
+            list_shown(text, FieldKind::BitMux, bit_bus::ZERO, 2)?;
+            list_shown(text, FieldKind::BitMux, 0, bit_bus::USED)
         }
         FieldKind::PosMux => {
-            list_shown(text, FieldKind::PosMux, POSITION_ZERO, 1)?;
-            list_shown(text, FieldKind::PosMux, 0, POSITIONS)
+            list_shown(text, FieldKind::PosMux, position_bus::ZERO, 1)?;
+            list_shown(text, FieldKind::PosMux, 0, position_bus::USED)
         }
         _ => unreachable!(),
     }

@@ -1,14 +1,14 @@
 ghost use Rattle.std.specs.Prelude.{◌≡◌, ◌<◌, true, is_some, [], map, IfOk};
 ghost use Rattle.std.specs.Option.{unwrap_or};
+ghost use Rattle.pb_names.specs.declared.TheConstants.{BLOCKS};
 ghost use Rattle.pb_fields.specs.Slots.{IsSlot};
 ghost use Rattle.pb_replies.specs.Replies.{list_reply};
 ghost use Rattle.pb_replies.specs.Lists.{block_lines, field_lines, attribute_lines, labels_at, position_lines, word_lines, row_lines};
 
-use crate::lines::{
-    BITS, ENTRIES, POSITIONS, list_block, list_field, list_labels, list_shown, list_unused,
-};
+use crate::lines::{list_block, list_field, list_labels, list_shown, list_unused};
 use crate::replies::{end_list, list};
 use pb_fields::{FieldKind, Slot, attribute_name, attributes, field_count, field_type, kind};
+use pb_names::{BLOCKS, bit_bus, position_bus};
 use pb_words::{OutOfMemory, Text};
 use std::alloc::Global;
 
@@ -17,7 +17,7 @@ pub fn blocks_reply(alloc: Global) -> Result<Text, OutOfMemory>
     ensures { IfOk result (λ text. text ≡ list_reply block_lines) }
 {
     let mut text = Text::new(alloc);
-    for block in 0..12 {
+    for block in 0..BLOCKS {
         list_block(&mut text, block)?;
     }
     end_list(&mut text)?;
@@ -26,7 +26,7 @@ pub fn blocks_reply(alloc: Global) -> Result<Text, OutOfMemory>
 
 /// The fields of a block, each with its place and its type.
 pub fn fields_reply(alloc: Global, block: u8) -> Result<Text, OutOfMemory>
-    requires { block < 12 }
+    requires { block < BLOCKS }
     ensures { IfOk result (λ text. text ≡ list_reply (field_lines block)) }
 {
     let mut text = Text::new(alloc);
@@ -78,8 +78,8 @@ pub fn positions_reply(alloc: Global) -> Result<Text, OutOfMemory>
     ensures { IfOk result (λ text. text ≡ list_reply position_lines) }
 {
     let mut text = Text::new(alloc);
-    list_shown(&mut text, FieldKind::PosMux, 0, POSITIONS)?;
-    list_unused(&mut text, ENTRIES - POSITIONS)?;
+    list_shown(&mut text, FieldKind::PosMux, 0, position_bus::USED)?;
+    list_unused(&mut text, position_bus::WIDTH - position_bus::USED)?;
     end_list(&mut text)?;
     Ok(text)
 }
@@ -89,11 +89,11 @@ pub fn word_reply(alloc: Global, word: u8) -> Result<Text, OutOfMemory>
     requires { word < 4 }
     ensures { IfOk result (λ text. text ≡ list_reply (word_lines word)) }
 {
-    let first = ENTRIES * word;
-    let used = BITS.saturating_sub(first).min(ENTRIES);
+    let first = bit_bus::WORD * word;
+    let used = bit_bus::USED.saturating_sub(first).min(bit_bus::WORD);
     let mut text = Text::new(alloc);
     list_shown(&mut text, FieldKind::BitMux, first, used)?;
-    list_unused(&mut text, ENTRIES - used)?;
+    list_unused(&mut text, bit_bus::WORD - used)?;
     end_list(&mut text)?;
     Ok(text)
 }

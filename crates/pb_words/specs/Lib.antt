@@ -1,6 +1,7 @@
 pub mod Numbers
 pub mod Refusals
+pub mod Cuts
 pub mod Signed
 pub mod Decimals
 pub mod Hex
-pub mod Steps
+pub mod Refusing

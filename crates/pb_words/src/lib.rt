@@ -4,6 +4,7 @@
 #![tactic(auto)]
 
 mod counting;
+mod cuts;
 mod decimals;
 mod hex;
 mod lines;
@@ -14,12 +15,14 @@ mod signed;
 mod texts;
 
 pub use counting::Steps;
+pub use cuts::{cut_digits, take_out_spaces};
 pub use decimals::{
     Decimal9, canonical_decimals_are_read_back, decimals_are_computed,
     decimals_are_read_in_one_way, decimals_by_example, read_decimal, read_decimal_up_to,
     whole_numbers_are_canonical, write_decimal,
 };
 pub use hex::write_hex32;
+pub use lines::Line;
 pub use memory::OutOfMemory;
 pub use numbers::{
     NumFault, decimals_are_read_back, put_front, read_tick, read_u32, read_u48, read_uint,

@@ -16,7 +16,7 @@ overflow_add-result-in-Some c =
 
 pub returns-in-Some : goal.returns-in-Some
 returns-in-Some c =
-    entry_of-field c.args.slot (Some c.in-Some.run') c.requires c.if-slot-ne0.false c.in-Some.ensures.found
+    entry_of-field c.args.slot (Some c.in-Some.run') c.requires c.if-slot-ne-ITSELF.false c.in-Some.ensures.found
 
 pub returns-in-None : goal.returns-in-None
-returns-in-None c = entry_of-field c.args.slot None c.requires c.if-slot-ne0.false c.in-None.ensures.found
+returns-in-None c = entry_of-field c.args.slot None c.requires c.if-slot-ne-ITSELF.false c.in-None.ensures.found

@@ -11,4 +11,4 @@ returns-clause-short c =
     let b = c.args.block in
     let f = c.args.field in
     let lt : f < length c.block_at.result.2.now = omega arith in
-    omega (arith, field_short b f, ap (λ (r : FieldRow). length r.name) (row_at field_row _ (fields_of b) f no_field (field [] types.Table) (ap (λ (r : BlockRow). r.fields) c.block_at.ensures.row) lt))
+    omega (arith, field_short b f, ap (λ (r : FieldRow). length r.name) (row_at field_row _ (fields_of b) f no_field (field [] types.Table 0) (ap (λ (r : BlockRow). r.fields) c.block_at.ensures.row) lt))

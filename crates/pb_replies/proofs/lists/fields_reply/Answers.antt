@@ -13,7 +13,7 @@ loop-field-preserved c =
     let f = c.loop-field.field in
     let size = length-field_lines 0 (fields_of b) in
     c.in_ok-list_field.ensures
-    ∙ one_more [] (field_lines b) f c.loop-field.text (field_line f (field_of b f)) (omega (arith, size)) (field_line_at 0 f f (fields_of b) (field [] types.Table) (omega arith) (omega arith)) c.loop-field.invariant
+    ∙ one_more [] (field_lines b) f c.loop-field.text (field_line f (field_of b f)) (omega (arith, size)) (field_line_at 0 f f (fields_of b) (field [] types.Table 0) (omega arith) (omega arith)) c.loop-field.invariant
 
 pub returns : goal.returns
 returns c =
