@@ -1,12 +1,12 @@
 -- One tick of the box.
-use Rattle.std.specs.Prelude.{◌≡◌, ℕ, zero, suc, ℤ, pos, ◌+◌, ◌==◌, ◌||◌, Bool, false, List, [], ◌∷◌, ◌++◌, map, take, drop, replicate, if◌then◌else◌}
+use Rattle.std.specs.Prelude.{◌≡◌, ℕ, zero, suc, ℤ, pos, ◌+◌, ◌==◌, Bool, true, false, List, [], ◌∷◌, ◌++◌, map, filter, take, drop, replicate, if◌then◌else◌}
 use Rattle.std.specs.List.{flat_map}
+use Rattle.pb_fields.specs.declared.FieldType.{FieldType}
+use Rattle.pb_fields.specs.declared.FieldType.TheVariants as types
+use Rattle.pb_fields.specs.Catalogue.{FieldRow}
+use Rattle.pb_fields.specs.Places.{fields_of}
 use Rattle.pb_names.specs.declared.ttlin.TheConstants as ttlin
 use Rattle.pb_names.specs.declared.inenc.TheConstants as inenc
-use Rattle.pb_names.specs.declared.srgate.TheConstants as srgate
-use Rattle.pb_names.specs.declared.div.TheConstants as div
-use Rattle.pb_names.specs.declared.pulse.TheConstants as pulse
-use Rattle.pb_names.specs.declared.counter.TheConstants as counter
 use Rattle.pb_names.specs.declared.pcap.TheConstants as pcap
 use Rattle.pb_names.specs.declared.bit_bus.TheConstants as bit_bus
 use Rattle.pb_names.specs.declared.position_bus.TheConstants as position_bus
@@ -133,14 +133,15 @@ ticks (suc n) box = ticks n (tick box)
 
 -- As the box opens.
 
--- what the bit inputs of a kind select: an ENABLE of what runs at once, and the GATE of PCAP, select ONE
-abbrev pub opening_selections : ℕ → List ℕ
+-- what the bit inputs of a kind select: their defaults, and ZERO beyond
+abbrev pub is_bit_mux : FieldType → Bool
+is_bit_mux types.BitMux = true
+is_bit_mux _ = false
+
+unfoldable pub opening_selections : ℕ → List ℕ
 opening_selections kind =
-    if kind == srgate.BLOCK || kind == div.BLOCK || kind == pulse.BLOCK || kind == counter.BLOCK
-    then bit_bus.ONE ∷ bit_bus.ZERO ∷ bit_bus.ZERO ∷ bit_bus.ZERO ∷ bit_bus.ZERO ∷ []
-    else (if kind == pcap.BLOCK
-    then bit_bus.ZERO ∷ bit_bus.ONE ∷ bit_bus.ZERO ∷ bit_bus.ZERO ∷ bit_bus.ZERO ∷ []
-    else bit_bus.ZERO ∷ bit_bus.ZERO ∷ bit_bus.ZERO ∷ bit_bus.ZERO ∷ bit_bus.ZERO ∷ [])
+    take 5 (map (λ (f : FieldRow). f.default) (filter (λ (f : FieldRow). is_bit_mux f.holds) (fields_of kind))
+    ++ replicate 5 bit_bus.ZERO)
 
 unfoldable pub opening_block : ℕ → Block
 opening_block kind =

@@ -11,7 +11,7 @@ use crate::blocks::Block;
 use crate::units::Unit;
 use pb_buses::{Buses, Mux};
 use pb_fields::instances;
-use pb_names::{bit_bus, counter, div, lut, pcap, position_bus, pulse, srgate};
+use pb_names::{bit_bus, clock, counter, div, lut, pcap, pcomp, position_bus, pulse, seq, srgate};
 use pb_words::OutOfMemory;
 use std::alloc::Global;
 use std::marker::Model;
@@ -108,8 +108,11 @@ impl Block {
     }
 }
 
-/// What the bit inputs of a kind select as the box opens.
+/// What the bit inputs of a kind select as the box opens: the place of a kind is 3 to 11.
+#[tactic(auto, unfolding(crate::specs::Tick::opening_selections, pb_fields::specs::Catalogue::catalogue))]
 fn selections(kind: u8) -> [u8; 5]
+    requires from_lut { lut.BLOCK ≤ kind }
+    requires to_pcap { kind ≤ pcap.BLOCK }
     ensures { result ≡ opening_selections kind }
 {
     const ZERO: u8 = bit_bus::ZERO;
@@ -117,7 +120,8 @@ fn selections(kind: u8) -> [u8; 5]
     match kind {
         srgate::BLOCK | div::BLOCK | pulse::BLOCK | counter::BLOCK => [ONE, ZERO, ZERO, ZERO, ZERO],
         pcap::BLOCK => [ZERO, ONE, ZERO, ZERO, ZERO],
-        _ => [ZERO; 5],
+        lut::BLOCK | clock::BLOCK | seq::BLOCK | pcomp::BLOCK => [ZERO; 5],
+        _ => unreachable!(),
     }
 }
 

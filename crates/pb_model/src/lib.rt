@@ -7,6 +7,7 @@ mod boxes;
 mod changes;
 mod places;
 mod rests;
+mod settings;
 mod shows;
 mod ticks;
 mod units;
