@@ -8,7 +8,7 @@ use Rattle.pb_names.specs.declared.lut.TheConstants as lut
 use Rattle.pb_names.specs.declared.pcap.TheConstants as pcap
 use Rattle.pb_fields.specs.Catalogue.{catalogue}
 use Rattle.pb_fields.specs.Places.{count_of}
-use Rattle.pb_model.specs.Machines.{Name, name, is_name, machines, place_in, with_named, of_name}
+use Rattle.pb_model.specs.Machines.{Name, name, is_name, machines, machine_kinds, place_in, with_named, of_name}
 
 place : ℕ → ℕ → ℕ
 place kind number = place_in machines (name kind number)
@@ -95,3 +95,27 @@ named_is_got [] of (x ∷ xs) d h = cc
 named_is_got (n ∷ names) of [] d h = cc
 named_is_got (n ∷ names) of (x ∷ xs) d h =
     step_got (is_name of n) (place_in names of) x d d (of_name names of xs d) xs (named_is_got names of xs d (omega arith))
+
+-- The kind of the block at a place.
+
+kind_there : ℕ → ℕ → ℕ
+kind_there kind number = get_or machine_kinds (place kind number) 0
+
+kind_itself : ℕ → ℕ → ℕ
+kind_itself kind number = kind
+
+rows_kind : map (of_kind kind_there) (range_with_len 3 9) ≡ map (of_kind kind_itself) (range_with_len 3 9)
+unfolding kind_there kind_itself place of_kind machines machine_kinds catalogue
+rows_kind = refl
+
+pub kind_at : (kind number : ℕ) → lut.BLOCK ≤ kind → kind ≤ pcap.BLOCK → 1 ≤ number → number ≤ count_of kind →
+    get_or machine_kinds (place_in machines (name kind number)) 0 ≡ kind
+unfolding kind_there kind_itself place
+kind_at kind number a b c d =
+    sym (row kind_there kind number a b c d)
+    ∙ ap (λ l. get_or (get_or l (kind - 3) []) (number - 1) 0) rows_kind
+    ∙ row kind_itself kind number a b c d
+
+pub machines_are_many : length machines ≡ 35
+unfolding machines catalogue
+machines_are_many = refl

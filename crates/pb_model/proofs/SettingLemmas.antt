@@ -1,5 +1,5 @@
 -- Which settings a change reaches.
-use Rattle.std.proofs.Common.{◌≡◌, ◌≢◌, ℕ, zero, suc, ◌+◌, ◌-◌, ◌<◌, ◌≤◌, ◌^◌, ◌==◌, ◌⊎◌, inl, inr, Bool, true, false, not, ltb, leb, List, [], ◌∷◌, length, get_or, refl, sym, ap, subst, ◌∙◌, arith, eq-eqb, Option, Some, None, if◌then◌else◌}
+use Rattle.std.proofs.Common.{◌≡◌, ◌≢◌, ℕ, zero, suc, ◌+◌, ◌-◌, ◌<◌, ◌≤◌, ◌^◌, ◌==◌, ◌&&◌, ◌⊎◌, inl, inr, Bool, true, false, not, ltb, leb, List, [], ◌∷◌, length, get_or, refl, sym, ap, subst, ◌∙◌, arith, eq-eqb, Option, Some, None, if◌then◌else◌}
 use Rattle.std.specs.List.{list_all}
 use Rattle.std.proofs.lemmas.Bool.{ltb-true, leb-true, eqb-true}
 use Rattle.pb_names.specs.declared.TheConstants.{ITSELF}
@@ -32,19 +32,19 @@ use Rattle.pb_model.specs.Settings.{is_pos_mux, so_many_before, bit_place, posit
 
 -- The DELAY of a mux is the only attribute that is taken.
 
-none_taken : (as : List Attribute) (i : ℕ) → list_all (λ a. not (is_taken_attribute a)) as ≡ true →
-    is_taken_attribute (get_or as i attributes.Info) ≡ false
+none_taken : (list : List Attribute) (i : ℕ) → list_all (λ a. not (is_taken_attribute a)) list ≡ true →
+    is_taken_attribute (get_or list i attributes.Info) ≡ false
 none_taken [] i h = refl
-none_taken (a ∷ as) zero h = first (is_taken_attribute a) (list_all (λ b. not (is_taken_attribute b)) as) h
+none_taken (a ∷ rest) zero h = first (is_taken_attribute a) (list_all (λ b. not (is_taken_attribute b)) rest) h
   where
-    first : (b c : Bool) → (if not b then c else false) ≡ true → b ≡ false
+    first : (b c : Bool) → (not b && c) ≡ true → b ≡ false
     first true c h = cc
     first false c h = refl
-none_taken (a ∷ as) (suc i) h = none_taken as i (rest (is_taken_attribute a) (list_all (λ b. not (is_taken_attribute b)) as) h)
+none_taken (a ∷ rest) (suc i) h = none_taken rest i (later (is_taken_attribute a) (list_all (λ b. not (is_taken_attribute b)) rest) h)
   where
-    rest : (b c : Bool) → (if not b then c else false) ≡ true → c ≡ true
-    rest true c h = cc
-    rest false c h = h
+    later : (b c : Bool) → (not b && c) ≡ true → c ≡ true
+    later true c h = cc
+    later false c h = h
 
 -- the attribute at this place is taken: it is the delay of a bit mux
 abbrev IsDelay : FieldType → ℕ → Type 0
@@ -136,19 +136,20 @@ implied false c h g = cc
 five : ℕ → ℕ → ℕ → Bool
 five b i f = if is_bit_mux (type_of b f) then ltb f 5 else true
 
+bit_mux_few-rows : of_fields (λ b i f. Some (five b i f)) ≡ of_fields always
+unfolding five always catalogue
+bit_mux_few-rows = refl
+
+bit_mux_few-all : (slot : Slot) → IsSlot slot → (if is_bit_mux (type_at slot) then ltb slot.field 5 else true) ≡ true
+unfolding five
+bit_mux_few-all slot s = holds_by five bit_mux_few-rows slot s
+
 pub bit_mux_few : (slot : Slot) → IsSlot slot → is_bit_mux (type_at slot) ≡ true → slot.field < 5
 bit_mux_few slot s h =
-    ltb-true slot.field 5 (implied (is_bit_mux (type_at slot)) (ltb slot.field 5) (all slot s) h)
-  where
-    rows : of_fields (λ b i f. Some (five b i f)) ≡ of_fields always
-    unfolding five always catalogue
-    rows = refl
-    all : (slot : Slot) → IsSlot slot → (if is_bit_mux (type_at slot) then ltb slot.field 5 else true) ≡ true
-    unfolding five
-    all slot s = holds_by five rows slot s
+    ltb-true slot.field 5 (implied (is_bit_mux (type_at slot)) (ltb slot.field 5) (bit_mux_few-all slot s) h)
 
 -- the position muxes
-first_position : ℕ → ℕ
+pub first_position : ℕ → ℕ
 first_position b = if b == seq.BLOCK then seq.POSA else pcomp.INP
 
 positions_before : ℕ → ℕ → ℕ → Option ℕ
@@ -169,21 +170,23 @@ position_bounds : ℕ → ℕ → ℕ → Bool
 position_bounds b i f =
     if is_pos_mux (type_of b f) then (if leb (first_position b) f then ltb (f - first_position b) 3 else false) else true
 
+position_mux_few-rows : of_fields (λ b i f. Some (position_bounds b i f)) ≡ of_fields always
+unfolding position_bounds always first_position catalogue
+position_mux_few-rows = refl
+
+position_mux_few-all : (slot : Slot) → IsSlot slot →
+    (if is_pos_mux (type_at slot)
+    then (if leb (first_position slot.block) slot.field then ltb (slot.field - first_position slot.block) 3 else false)
+    else true) ≡ true
+unfolding position_bounds
+position_mux_few-all slot s = holds_by position_bounds position_mux_few-rows slot s
+
 pub position_mux_few : (slot : Slot) → IsSlot slot → is_pos_mux (type_at slot) ≡ true →
     (first_position slot.block ≤ slot.field) × (slot.field - first_position slot.block < 3)
 position_mux_few slot s h =
     both (leb (first_position slot.block) slot.field) refl
-    (implied (is_pos_mux (type_at slot)) _ (all slot s) h)
+    (implied (is_pos_mux (type_at slot)) _ (position_mux_few-all slot s) h)
   where
-    rows : of_fields (λ b i f. Some (position_bounds b i f)) ≡ of_fields always
-    unfolding position_bounds always first_position catalogue
-    rows = refl
-    all : (slot : Slot) → IsSlot slot →
-        (if is_pos_mux (type_at slot)
-        then (if leb (first_position slot.block) slot.field then ltb (slot.field - first_position slot.block) 3 else false)
-        else true) ≡ true
-    unfolding position_bounds
-    all slot s = holds_by position_bounds rows slot s
     both : (b : Bool) → leb (first_position slot.block) slot.field ≡ b →
         (if b then ltb (slot.field - first_position slot.block) 3 else false) ≡ true →
         (first_position slot.block ≤ slot.field) × (slot.field - first_position slot.block < 3)
@@ -212,21 +215,23 @@ bounds_of b i f =
     then (if leb bits.BLOCK b then (if b == bits.BLOCK then ltb f 4 else true) else false)
     else true
 
+taken_bounds-rows : of_fields (λ b i f. Some (bounds_of b i f)) ≡ of_fields always
+unfolding bounds_of always catalogue
+taken_bounds-rows = refl
+
+taken_bounds-all : (slot : Slot) → IsSlot slot →
+    (if is_taken_role (role_of (type_at slot))
+    then (if leb bits.BLOCK slot.block then (if slot.block == bits.BLOCK then ltb slot.field 4 else true) else false)
+    else true) ≡ true
+unfolding bounds_of
+taken_bounds-all slot s = holds_by bounds_of taken_bounds-rows slot s
+
 pub taken_bounds : (slot : Slot) → IsSlot slot → is_taken_role (role_of (type_at slot)) ≡ true →
     (bits.BLOCK ≤ slot.block) × (slot.block ≡ bits.BLOCK → slot.field < 4)
 taken_bounds slot s h =
     both (leb bits.BLOCK slot.block) refl (slot.block == bits.BLOCK) refl
-    (implied (is_taken_role (role_of (type_at slot))) _ (all slot s) h)
+    (implied (is_taken_role (role_of (type_at slot))) _ (taken_bounds-all slot s) h)
   where
-    rows : of_fields (λ b i f. Some (bounds_of b i f)) ≡ of_fields always
-    unfolding bounds_of always catalogue
-    rows = refl
-    all : (slot : Slot) → IsSlot slot →
-        (if is_taken_role (role_of (type_at slot))
-        then (if leb bits.BLOCK slot.block then (if slot.block == bits.BLOCK then ltb slot.field 4 else true) else false)
-        else true) ≡ true
-    unfolding bounds_of
-    all slot s = holds_by bounds_of rows slot s
     both : (a : Bool) → leb bits.BLOCK slot.block ≡ a → (b : Bool) → (slot.block == bits.BLOCK) ≡ b →
         (if a then (if b then ltb slot.field 4 else true) else false) ≡ true →
         (bits.BLOCK ≤ slot.block) × (slot.block ≡ bits.BLOCK → slot.field < 4)
@@ -254,18 +259,19 @@ read_at slot h = by (slot.attr == ITSELF) refl h
     by true e g = rw e at g
     by false e g = let k : roles.Attr ≡ roles.Read = rw e at g in cc
 
+read_block-rows : of_fields (λ b i f. Some (read_bounds b i f)) ≡ of_fields always
+unfolding read_bounds always is_read catalogue
+read_block-rows = refl
+
+read_block-all : (slot : Slot) → IsSlot slot → (if is_read (role_of (type_at slot)) then leb lut.BLOCK slot.block else true) ≡ true
+unfolding read_bounds
+read_block-all slot s = holds_by read_bounds read_block-rows slot s
+
 pub read_block : (slot : Slot) → IsSlot slot → role_at slot ≡ roles.Read → lut.BLOCK ≤ slot.block
 unfolding is_read
 read_block slot s h =
     leb-true lut.BLOCK slot.block
-    (implied (is_read (role_of (type_at slot))) _ (all slot s) (ap is_read (read_at slot h)))
-  where
-    rows : of_fields (λ b i f. Some (read_bounds b i f)) ≡ of_fields always
-    unfolding read_bounds always is_read catalogue
-    rows = refl
-    all : (slot : Slot) → IsSlot slot → (if is_read (role_of (type_at slot)) then leb lut.BLOCK slot.block else true) ≡ true
-    unfolding read_bounds
-    all slot s = holds_by read_bounds rows slot s
+    (implied (is_read (role_of (type_at slot))) _ (read_block-all slot s) (ap is_read (read_at slot h)))
 
 -- Selections are small.
 
@@ -279,3 +285,9 @@ position_small slot raw s a t =
     let is : kind_of slot ≡ kinds.PosMux = rw (a, t) refl in
     position_selection_small raw (subst (λ k. IsRaw k raw) is s.in_range)
 
+
+pub is_bit_mux_at : (t : FieldType) → t ≡ types.BitMux → is_bit_mux t ≡ true
+is_bit_mux_at t h = ap is_bit_mux h
+
+pub is_pos_mux_at : (t : FieldType) → t ≡ types.PosMux → is_pos_mux t ≡ true
+is_pos_mux_at t h = ap is_pos_mux h

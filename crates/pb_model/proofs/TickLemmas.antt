@@ -1,20 +1,26 @@
 -- One tick: what is kept goes on as the box does.
-use Rattle.std.proofs.Common.{◌≡◌, ℕ, zero, suc, ◌+◌, ◌-◌, ◌<◌, ◌≤◌, Bool, ℤ, List, [], ◌∷◌, ◌++◌, length, get_or, take, drop, map, refl, sym, ap, subst, ◌∙◌, arith, append_assoc, add-one, length-append}
-use Rattle.std.specs.List.{flat_map, sum_by}
+use Rattle.std.proofs.Common.{◌≡◌, ℕ, zero, suc, ◌+◌, ◌-◌, ◌<◌, ◌≤◌, Bool, false, ℤ, List, [], ◌∷◌, ◌++◌, length, get_or, take, drop, map, refl, sym, ap, subst, ◌∙◌, arith, append_assoc, add-one, length-append, drop-cons, set, replicate, ◌≢◌}
+use Rattle.std.proofs.lemmas.Grind.{common_steps}
+use Rattle.std.proofs.lemmas.List.{append-nil, length-map, length-take-le, get_or-append-add, map-append, take_more}
+use Rattle.std.proofs.Math.Seq.{set-append_seam}
+use Rattle.std.specs.List.{flat_map, sum_by, range_with_len}
 use Rattle.pb_fields.specs.Catalogue.{catalogue}
+use Rattle.pb_fields.specs.Places.{count_of}
 use Rattle.pb_buses.specs.declared.Inputs.{Inputs}
+use Rattle.pb_buses.specs.declared.Emit.{Emit}
+use Rattle.pb_buses.specs.declared.Emit.TheVariants as emits
 use Rattle.pb_buses.specs.declared.Bus.{Bus}
 use Rattle.pb_buses.specs.declared.Buses.{Buses}
-use Rattle.pb_buses.specs.Buses.{AgreesWithPast}
-use Rattle.pb_buses.proofs.ChangeLemmas.{tick_agrees, unchanged_at}
+use Rattle.pb_buses.specs.Buses.{AgreesWithPast, opening_buses}
+use Rattle.pb_buses.proofs.ChangeLemmas.{tick_agrees, unchanged_at, opening_agrees}
 use Rattle.pb_model.specs.declared.blocks.Block.{Block}
 use Rattle.pb_model.specs.declared.units.Unit.{Unit as AnyUnit}
 use Rattle.pb_model.specs.declared.units.Unit.TheVariants as units
 use Rattle.pb_model.specs.Machines.{machines, machine_kinds}
 use Rattle.pb_model.specs.Units.{place_of, next, bit_outputs, position_outputs}
-use Rattle.pb_model.specs.Tick.{Standing, Box, kind_of, bits_of, positions_of, block_after, standing_after, tick, inputs_of}
-use Rattle.pb_model.specs.Kept.{Kept, IsWhole, Agrees, stands_of, kept_after, with_bits, with_positions, buses_with}
-use Rattle.pb_model.proofs.ShownLemmas.{count_bits, count_positions}
+use Rattle.pb_model.specs.Tick.{Standing, Box, kind_of, bits_of, positions_of, block_after, standing_after, tick, inputs_of, emitted_by, or_before, handed_on, opening_block, opening_box}
+use Rattle.pb_model.specs.Kept.{Kept, IsWhole, Agrees, stands_of, kept_after, opening, with_bits, with_positions, buses_with}
+use Rattle.pb_model.proofs.ShownLemmas.{count_bits, count_positions, bits-append}
 use Rattle.pb_model.proofs.BusLemmas.{spliced, spliced-is, bits-bus, positions-bus, AreUnchanged, bits_agree, positions_agree}
 
 -- A block stays of its kind.
@@ -130,3 +136,134 @@ agrees_after kept w box h =
           (agree_with kept.buses box.past (flat_map bits_of blocks ++ kept.settings) (flat_map positions_of blocks)
           many (many_positions blocks kinds) h.changes));
     }
+
+-- The pieces of a tick, one after the other.
+
+pub kinds_after : (bus : Bus) (tick : ℕ) (blocks stepped : List Block) → map kind_of blocks ≡ machine_kinds →
+    stepped ≡ map (block_after bus tick) blocks → map kind_of stepped ≡ machine_kinds
+kinds_after bus tick blocks stepped h e = ap (map kind_of) e ∙ (kinds_stay bus tick blocks ∙ h)
+
+pub are_35 : (blocks : List Block) → map kind_of blocks ≡ machine_kinds → length blocks ≡ 35
+are_35 blocks h = sym (length-map blocks kind_of) ∙ (ap length h ∙ length-machine_kinds)
+
+pub pieces : (kept : Kept) (stepped : List Block) (a b c : Buses) (entry : ℕ) →
+    stepped ≡ map (block_after kept.buses.bus kept.tick) kept.blocks →
+    a ≡ with_bits 6 (flat_map bits_of stepped) (kept.tick + 1) kept.buses →
+    entry ≡ 6 + length (flat_map bits_of stepped) →
+    b ≡ with_bits entry kept.settings (kept.tick + 1) a →
+    c ≡ with_positions 4 (flat_map positions_of stepped) (kept.tick + 1) b →
+    record { tick = kept.tick + 1; buses = c; settings = kept.settings; blocks = stepped } ≡ kept_after kept
+pieces kept stepped a b c entry is_stepped is_a is_entry is_b is_c =
+    let bits : List Bool = flat_map bits_of stepped in
+    let positions : List ℤ = flat_map positions_of stepped in
+    let after : ℕ = kept.tick + 1 in
+    let shown : c ≡ buses_with (kept.tick + 1) stepped kept.settings kept.buses =
+        is_c
+        ∙ ap (with_positions 4 positions after)
+        (is_b
+        ∙ (ap (λ n. with_bits n kept.settings after a) is_entry
+        ∙ (ap (with_bits (6 + length bits) kept.settings after) is_a
+        ∙ sym (bits-append 6 bits kept.settings after kept.buses)))) in
+    ap (λ (buses : Buses). record { tick = kept.tick + 1; buses = buses; settings = kept.settings; blocks = stepped }) shown
+    ∙ ap (λ (blocks : List Block). record {
+      tick = kept.tick + 1;
+      buses = buses_with (kept.tick + 1) blocks kept.settings kept.buses;
+      settings = kept.settings;
+      blocks = blocks;
+    }) is_stepped
+
+pub agrees_along : (kept was now : Kept) → kept ≡ was → IsWhole kept.blocks kept.settings → now ≡ kept_after kept →
+    (box : Box) → Agrees was box → Agrees now (tick box)
+agrees_along kept was now e w n box h =
+    subst (λ k. Agrees k (tick box)) (sym n) (agrees_after kept w box (subst (λ k. Agrees k box) (sym e) h))
+
+-- One block's step.
+
+from_here : (blocks : List Block) (i : ℕ) (d : Block) → i < length blocks → drop i blocks ≡ get_or blocks i d ∷ drop (i + 1) blocks
+from_here blocks i d h = rw (add-one, drop-cons blocks i d) refl
+
+pub one_emits : (bus : Bus) (tick i : ℕ) (blocks : List Block) (d : Block) (before emit after : Emit) → i < length blocks →
+    emit ≡ emitted_by bus tick (get_or blocks i d) → after ≡ or_before before emit →
+    handed_on after (map (emitted_by bus tick) (drop (i + 1) blocks)) ≡ handed_on before (map (emitted_by bus tick) (drop i blocks))
+one_emits bus tick i blocks d before emit after h e is =
+    ap (λ x. handed_on x (map (emitted_by bus tick) (drop (i + 1) blocks))) (is ∙ ap (or_before before) e)
+    ∙ sym (ap (λ l. handed_on before (map (emitted_by bus tick) l)) (from_here blocks i d h))
+
+pub something_emitted : (before emit : Emit) → emit ≢ emits.Nothing → emit ≡ or_before before emit
+something_emitted before emits.Nothing h = absurd (h refl)
+something_emitted before (emits.Record record_) h = refl
+something_emitted before (emits.Completed condition) h = refl
+
+pub item_is : (f : Block → Block) (blocks items : List Block) (i : ℕ) (d : Block) → i < length blocks →
+    items ≡ map f (take i blocks) ++ drop i blocks → get_or items i d ≡ get_or blocks i d
+item_is f blocks items i d h e =
+    let done : List Block = map f (take i blocks) in
+    let long : length (map f (take i blocks)) ≡ i = length-map (take i blocks) f ∙ length-take-le i blocks (omega arith) in
+    let at : i ≡ length (map f (take i blocks)) + 0 = omega (arith, long) in
+    ap (λ l. get_or l i d) e
+    ∙ (ap (λ n. get_or (done ++ drop i blocks) n d) at
+    ∙ (get_or-append-add done (drop i blocks) 0 d
+    ∙ ap (λ l. get_or l 0 d) (from_here blocks i d h)))
+
+pub item_stepped : (f : Block → Block) (blocks items : List Block) (i : ℕ) (new d : Block) → i < length blocks →
+    items ≡ map f (take i blocks) ++ drop i blocks → new ≡ f (get_or items i d) →
+    set items i new ≡ map f (take (i + 1) blocks) ++ drop (i + 1) blocks
+item_stepped f blocks items i new d h e n =
+    let done : List Block = map f (take i blocks) in
+    let rest : List Block = drop (i + 1) blocks in
+    let here : Block = get_or blocks i d in
+    let long : i ≡ length (map f (take i blocks)) =
+        sym (length-map (take i blocks) f ∙ length-take-le i blocks (omega arith)) in
+    let is : new ≡ f here = n ∙ ap f (item_is f blocks items i d h e) in
+    ap (λ l. set l i new) (e ∙ ap (λ l. done ++ l) (from_here blocks i d h))
+    ∙ (ap (λ k. set (done ++ here ∷ rest) k new) long
+    ∙ (set-append_seam done here rest new
+    ∙ (ap (λ x. done ++ x ∷ rest) is
+    ∙ (sym (append_assoc done (f here ∷ []) rest)
+    ∙ ap (λ l. l ++ rest) (sym (map-append f (take i blocks) (here ∷ [])) ∙ ap (map f) (sym (take_more blocks i d h)))))))
+
+-- As the box opens.
+
+pub all_opened : flat_map (λ kind. replicate (count_of kind) (opening_block kind)) (range_with_len 3 9) ≡ map opening_block machine_kinds
+unfolding machines machine_kinds catalogue
+all_opened = refl
+
+pub more_opened : (items new : List Block) (kind : ℕ) → kind < 12 → new ≡ items ++ replicate (count_of kind) (opening_block kind) →
+    new ++ flat_map (λ k. replicate (count_of k) (opening_block k)) (range_with_len (kind + 1) (12 - (kind + 1)))
+    ≡ items ++ flat_map (λ k. replicate (count_of k) (opening_block k)) (range_with_len kind (12 - kind))
+more_opened items new kind h e =
+    let f : ℕ → List Block = λ k. replicate (count_of k) (opening_block k) in
+    let rest : List Block = flat_map f (range_with_len (kind + 1) (12 - (kind + 1))) in
+    let n : suc (12 - (kind + 1)) ≡ 12 - kind = omega arith in
+    ap (λ l. l ++ rest) e
+    ∙ (append_assoc items (f kind) rest
+    ∙ ap (λ m. items ++ flat_map f (range_with_len kind m)) n)
+
+opened_kinds : map kind_of (map opening_block machine_kinds) ≡ machine_kinds
+unfolding opening_block machines machine_kinds catalogue
+opened_kinds = refl
+
+pub opening_whole : (blocks : List Block) (settings : List Bool) → blocks ≡ map opening_block machine_kinds → length settings ≡ 4 →
+    IsWhole blocks settings
+opening_whole blocks settings e h = record { kinds = ap (map kind_of) e ∙ opened_kinds; four = h }
+
+opening_agreed : Agrees opening opening_box
+opening_agreed = record { stands = refl; ticks = refl; changes = opening_agrees }
+
+pub opening_along : (kept : Kept) → kept ≡ opening → Agrees kept opening_box
+opening_along kept e = subst (λ k. Agrees k opening_box) (sym e) opening_agreed
+
+pub all_done : (items : List Block) (kind : ℕ) → 12 ≤ kind →
+    items ++ flat_map (λ k. replicate (count_of k) (opening_block k)) (range_with_len kind (12 - kind)) ≡ map opening_block machine_kinds →
+    items ≡ map opening_block machine_kinds
+all_done items kind h e =
+    let none : 12 - kind ≡ 0 = omega arith in
+    sym (append-nil items)
+    ∙ (sym (ap (λ n. items ++ flat_map (λ k. replicate (count_of k) (opening_block k)) (range_with_len kind n)) none)
+    ∙ e)
+
+pub is_opening : (buses : Buses) (blocks : List Block) → buses ≡ opening_buses → blocks ≡ map opening_block machine_kinds →
+    record { tick = 0; buses = buses; settings = false ∷ false ∷ false ∷ false ∷ []; blocks = blocks } ≡ opening
+is_opening buses blocks a b =
+    ap (λ (x : Buses). record { tick = 0; buses = x; settings = false ∷ false ∷ false ∷ false ∷ []; blocks = blocks }) a
+    ∙ ap (λ (l : List Block). record { tick = 0; buses = opening_buses; settings = false ∷ false ∷ false ∷ false ∷ []; blocks = l }) b

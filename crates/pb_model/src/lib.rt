@@ -5,6 +5,7 @@
 mod blocks;
 mod boxes;
 mod changes;
+mod laws;
 mod places;
 mod rests;
 mod settings;
@@ -15,6 +16,7 @@ mod units;
 pub use blocks::Block;
 pub use boxes::BoxState;
 pub use changes::{Change, is_taken_role};
+pub use laws::outputs_stand_at_their_entries;
 pub use places::{MACHINES, machine};
 pub use rests::Resting;
 pub use ticks::tick;

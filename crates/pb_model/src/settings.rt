@@ -1,5 +1,6 @@
-ghost use Rattle.std.specs.Prelude.{◌≡◌, ◌<◌, true};
+ghost use Rattle.std.specs.Prelude.{◌≡◌, ◌<◌, ◌≤◌, true, slice_index_or, slice_set};
 ghost use Rattle.pb_fields.specs.Slots.{IsSlot, role_at, type_at};
+ghost use Rattle.pb_buses.specs.Delay.{wired, delayed, opening_input};
 ghost use Rattle.pb_model.specs.Changes.{IsChange, IsSet};
 ghost use Rattle.pb_model.specs.Tick.{kind_of};
 ghost use Rattle.pb_model.specs.Settings.{is_pos_mux, position_place, with_value, with_setting, changed, read_of};
@@ -8,7 +9,7 @@ use crate::blocks::Block;
 use crate::boxes::BoxState;
 use crate::changes::Change;
 use crate::places::machine;
-use pb_buses::Machine;
+use pb_buses::{Machine, Mux};
 use pb_fields::{FieldType, Role, Slot, field_type};
 use pb_names::{ITSELF, bits, pcomp, seq};
 
@@ -56,11 +57,11 @@ impl Block {
         ensures { self.new ≡ with_value slot raw self.old }
     {
         if slot.attr != ITSELF {
-            self.bits[slot.field as usize].set_delay(raw as u8);
+            delay(&mut self.bits, slot.field, raw as u8);
             return;
         }
         match field_type(slot) {
-            FieldType::BitMux => self.bits[slot.field as usize].wire(raw as u8),
+            FieldType::BitMux => wire(&mut self.bits, slot.field, raw as u8),
             FieldType::PosMux => self.positions[position_input(slot) as usize] = raw as u8,
             _ => self.unit.set(slot.field, raw),
         }
@@ -79,4 +80,23 @@ fn position_input(slot: Slot) -> u8
     } else {
         slot.field - pcomp::INP
     }
+}
+
+/// A bit input selects another entry from now on.
+fn wire(inputs: &mut [Mux; 5], place: u8, select: u8)
+    requires { place < 5 }
+    ensures { inputs.new ≡ slice_set inputs.old place (wired (slice_index_or inputs.old place opening_input) select) }
+{
+    let mux = &mut inputs[place as usize];
+    mux.wire(select);
+}
+
+/// A bit input takes another delay from now on.
+fn delay(inputs: &mut [Mux; 5], place: u8, ticks: u8)
+    requires place { place < 5 }
+    requires ticks { ticks ≤ 31 }
+    ensures { inputs.new ≡ slice_set inputs.old place (delayed (slice_index_or inputs.old place opening_input) ticks) }
+{
+    let mux = &mut inputs[place as usize];
+    mux.set_delay(ticks);
 }
