@@ -3,7 +3,8 @@ ghost use Rattle.pb_fields.specs.Slots.{IsSlot, attributes_at};
 ghost use Rattle.pb_config.specs.Settings.{place, instance_place, field_slot, units_slot};
 
 use pb_fields::Slot;
-use pb_names::{ITSELF, time};
+use pb_names::ITSELF;
+use pb_names::time::UNITS;
 
 /// The place of the slot among all slots.
 #[tactic(auto, using(crate::proofs::PlaceLemmas::few))]
@@ -40,12 +41,12 @@ pub fn field_slot(slot: Slot) -> Slot
 /// The attribute UNITS of the field of a time.
 pub(crate) fn units_slot(slot: Slot) -> Slot
     requires slot { IsSlot slot }
-    requires time { 2 ≤ length (attributes_at slot) }
+    requires time { UNITS ≤ length (attributes_at slot) }
     ensures units { result ≡ units_slot slot }
     ensures slot { IsSlot result }
 {
     Slot {
-        attr: time::UNITS,
+        attr: UNITS,
         ..slot
     }
 }
