@@ -1,8 +1,7 @@
 -- One more word is held.
-use Rattle.std.proofs.Common.{◌≡◌, ℕ, ◌+◌, ◌<◌, ◌≤◌, List, [], ◌∷◌, ◌++◌, length, take, refl, sym, ap, ◌∙◌, arith}
+use Rattle.std.proofs.Common.{◌≡◌, ℕ, ◌+◌, ◌<◌, ◌≤◌, List, [], ◌∷◌, ◌++◌, length, take, refl, arith}
 use Rattle.std.proofs.Math.ListN.{set}
 use Rattle.std.proofs.lemmas.List.{length-append, take_all, take-append-le, take_more_set}
-use Rattle.pb_tables.specs.Tables.{most}
 
 -- where there is room
 pub held_more : (items words : List ℕ) (count word : ℕ) → length items ≡ 16384 → count < 16384 → count ≡ length words → take count items ≡ take 16384 words

@@ -1,14 +1,14 @@
 -- Where an encoding is cut, and what its parts are encodings of.
-use Rattle.std.proofs.Common.{◌≡◌, ◌≢◌, ℕ, ◌+◌, ◌-◌, ◌*◌, ◌/◌, ◌%◌, ◌<◌, ◌≤◌, ◌↔◌, Bool, true, false, List, [], ◌∷◌, ◌++◌, length, get_or, take, drop, replicate, slice_index, Ok, Err, refl, sym, ap, subst, ◌∙◌, inl, inr, nat_eq, arith}
+use Rattle.std.proofs.Common.{◌≡◌, ℕ, ◌+◌, ◌*◌, ◌/◌, ◌%◌, ◌<◌, true, List, ◌++◌, length, take, drop, replicate, Ok, refl, sym, ap, subst, ◌∙◌, inl, inr, nat_eq, arith}
 use Rattle.std.specs.Prelude.{MatchBool}
-use Rattle.std.proofs.lemmas.Bool.{cases_lt, cases_Bool}
+use Rattle.std.proofs.lemmas.Bool.{cases_Bool}
 use Rattle.std.proofs.lemmas.Bool.Decides.{nat_tests}
-use Rattle.std.proofs.lemmas.List.{length-append, length-take-le, length-drop, length-replicate, take-append-drop, take_at, drop_at, get_or-drop}
+use Rattle.std.proofs.lemmas.List.{length-append, length-take-le, length-replicate, take-append-drop, take_at, drop_at, get_or-drop}
 use Rattle.base64.specs.Engines.{standard}
 use Rattle.base64.specs.GeneralPurpose.{IsBytes, IsStrict, IsConsistent, encode_of, decode_of}
-use Rattle.base64.specs.Rfc4648.{encode_symbols, padding_len, unpadded_len}
+use Rattle.base64.specs.Rfc4648.{encode_symbols, padding_len}
 use Rattle.base64.proofs.RoundTrip.{length-encode_symbols}
-use Rattle.base64.proofs.EngineFacts.{decode_of_iff, decode_of_strict, decode_of-encode_of, encode_of-append, front_bytes}
+use Rattle.base64.proofs.EngineFacts.{decode_of-encode_of, encode_of-append, front_bytes}
 use Rattle.pb_tables.specs.Chunks.{IsChunk}
 
 pub strict : IsStrict standard

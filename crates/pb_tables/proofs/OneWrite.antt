@@ -1,8 +1,7 @@
 -- A table write means one thing.
-use Rattle.std.proofs.Common.{◌≡◌, ◌≢◌, ℕ, ◌+◌, ◌*◌, ◌%◌, ◌<◌, ◌≤◌, ◌⊎◌, Bool, true, false, List, ◌++◌, length, slice_index, refl, sym, ap, subst, ◌∙◌, inl, inr, arith}
+use Rattle.std.proofs.Common.{◌≡◌, ◌≢◌, ℕ, ◌+◌, ◌*◌, ◌%◌, ◌<◌, ◌≤◌, ◌⊎◌, Bool, List, ◌++◌, length, slice_index, refl, sym, ap, subst, ◌∙◌, inl, inr, arith}
 use Rattle.pb_words.specs.declared.refusals.Refusal.{Refusal}
 use Rattle.pb_words.specs.declared.refusals.Refusal.TheVariants as refusals
-use Rattle.pb_tables.specs.Bodies.{Says, SaysNone}
 use Rattle.pb_tables.specs.Tables.{CanFollow, CannotFollow, IsWritten, IsRefused, kept, trigger_of}
 use Rattle.pb_tables.proofs.OneReading.{one_saying, one_reason, not_both}
 

@@ -1,14 +1,14 @@
 -- What has been read of a body of numbers.
-use Rattle.std.proofs.Common.{◌≡◌, ℕ, ◌+◌, ◌-◌, ◌<◌, ◌≤◌, ◌^◌, Bool, true, false, List, [], ◌∷◌, ◌++◌, length, get_or, take, drop, map, All, Err, Ok, refl, sym, ap, subst, ◌∙◌, append_assoc, append-nil, arith}
+use Rattle.std.proofs.Common.{◌≡◌, ℕ, ◌+◌, ◌-◌, ◌<◌, ◌≤◌, ◌^◌, Bool, true, false, List, [], ◌∷◌, ◌++◌, length, get_or, map, All, Err, Ok, refl, sym, ap, subst, ◌∙◌, append_assoc, append-nil, arith}
 use Rattle.std.proofs.lemmas.List.{length-append, get_or_append_left, map-append}
-use Rattle.std.proofs.lemmas.List.Elements.{All-nil, All-cons, All-append, All-head, All-tail, All-weaker, All-push}
+use Rattle.std.proofs.lemmas.List.Elements.{All-nil, All-append, All-tail, All-weaker, All-push}
 use Rattle.std.proofs.lemmas.Bool.Decides.{nat_tests}
 use Rattle.pb_words.specs.Numbers.{IsDigit, IsUint, value_of, ReadsUint}
 use Rattle.pb_words.specs.declared.numbers.NumFault.{NumFault}
 use Rattle.pb_words.specs.declared.numbers.NumFault.TheVariants as faults
 use Rattle.pb_tables.specs.declared.drafts.Draft.{Draft}
-use Rattle.pb_tables.specs.Bodies.{is_blank, IsGap, IsApart, Leads, Writes, AreWords, Says}
-use Rattle.pb_tables.specs.Scanning.{is_digit, IsNumeral}
+use Rattle.pb_tables.specs.Bodies.{is_blank, IsGap, Leads, Writes, AreWords}
+use Rattle.pb_tables.specs.Scanning.{IsNumeral}
 use Rattle.pb_tables.specs.Held.{Holds, IsRead}
 
 -- These numbers stand before the rest of the body. Where all are words they are held.

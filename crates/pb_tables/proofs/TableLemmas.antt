@@ -1,9 +1,9 @@
 -- Words behind the words of a table.
-use Rattle.std.proofs.Common.{◌≡◌, ℕ, ◌+◌, ◌-◌, ◌*◌, ◌/◌, ◌%◌, ◌<◌, ◌≤◌, Bool, true, false, List, [], ◌∷◌, ◌++◌, length, get_or, take, drop, slice_index, refl, sym, ap, subst, ◌∙◌, inl, inr, arith}
+use Rattle.std.proofs.Common.{◌≡◌, ℕ, ◌+◌, ◌-◌, ◌*◌, ◌/◌, ◌%◌, ◌<◌, ◌≤◌, Bool, true, false, List, [], ◌++◌, length, take, drop, slice_index, refl, sym, ap, subst, ◌∙◌, inl, inr, arith}
 use Rattle.std.proofs.lemmas.Bool.{cases_lt}
 use Rattle.std.proofs.lemmas.List.{length-append, get_or_append_left, get_or-append_right, take_all, take_at, length-take-le}
 use Rattle.pb_tables.specs.declared.drafts.Draft.{Draft}
-use Rattle.pb_tables.specs.Tables.{IsTable, CanFollow, CannotFollow, kept, trigger_of}
+use Rattle.pb_tables.specs.Tables.{IsTable, CanFollow, kept, trigger_of}
 use Rattle.pb_tables.specs.Held.{Holds, IsBad}
 
 -- words that can follow a table make one with it

@@ -1,5 +1,5 @@
 -- What the code holds of the words of a body.
-use Rattle.std.specs.Prelude.{◌≡◌, ◌<◌, ◌%◌, ◌*◌, ℕ, ◌≤◌, Bool, List, ◌++◌, length, slice_index, take, vec_len}
+use Rattle.std.specs.Prelude.{◌≡◌, ◌<◌, ◌%◌, ◌*◌, ℕ, Bool, List, ◌++◌, length, slice_index, take}
 use Rattle.base64.specs.Engines.{standard}
 use Rattle.base64.specs.GeneralPurpose.{encode_of}
 use Rattle.pb_tables.specs.declared.drafts.Draft.{Draft}

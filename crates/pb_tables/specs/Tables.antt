@@ -1,5 +1,5 @@
 -- Tables: their rows, and what writing one leaves.
-use Rattle.std.specs.Prelude.{◌≡◌, ◌≢◌, ℕ, ◌+◌, ◌*◌, ◌/◌, ◌%◌, ◌^◌, ◌<◌, ◌≤◌, ◌⊎◌, Bool, true, false, if◌then◌else◌, List, [], ◌++◌, length, slice_index}
+use Rattle.std.specs.Prelude.{◌≡◌, ◌≢◌, ℕ, ◌+◌, ◌*◌, ◌/◌, ◌%◌, ◌^◌, ◌<◌, ◌≤◌, ◌⊎◌, Bool, if◌then◌else◌, List, [], ◌++◌, length, slice_index}
 use Rattle.std.specs.Int.{w32, cast_signed}
 use Rattle.pb_words.specs.declared.refusals.Refusal.{Refusal}
 use Rattle.pb_words.specs.declared.refusals.Refusal.TheVariants as refusals

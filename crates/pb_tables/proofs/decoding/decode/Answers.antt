@@ -1,4 +1,4 @@
-use Rattle.std.proofs.Common.{◌≡◌, take, arith}
+use Rattle.std.proofs.Common.{take, arith}
 use Rattle.base64.specs.Engines.{standard}
 use Rattle.base64.proofs.EngineFacts.{decode_of_iff, decode_of_strict}
 use Rattle.pb_tables.proofs.EncodingCuts.{strict, IsBytes-take}

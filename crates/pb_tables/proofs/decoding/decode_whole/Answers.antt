@@ -1,4 +1,4 @@
-use Rattle.std.proofs.Common.{◌≡◌, arith}
+use Rattle.std.proofs.Common.{arith}
 use Rattle.pb_tables.proofs.EncodingCuts.{whole_or_not}
 use Rattle.pb_tables.proofs.decoding.decode_whole.Goals as goal
 

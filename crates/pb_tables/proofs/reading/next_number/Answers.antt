@@ -1,4 +1,4 @@
-use Rattle.std.proofs.Common.{◌≡◌, ◌∙◌, sym}
+use Rattle.std.proofs.Common.{sym}
 use Rattle.pb_tables.proofs.NumberCuts.{only_blanks, leads}
 use Rattle.pb_tables.proofs.reading.next_number.Goals as goal
 

@@ -1,4 +1,4 @@
-use Rattle.std.proofs.Common.{◌≡◌, arith}
+use Rattle.std.proofs.Common.{arith}
 use Rattle.pb_tables.proofs.ChunkLemmas.{chunk_added, bad_chunk}
 use Rattle.pb_tables.proofs.drafts.Draft.add_chunk.Goals as goal
 

@@ -1,4 +1,4 @@
-use Rattle.std.proofs.Common.{◌≡◌, arith}
+use Rattle.std.proofs.Common.{arith}
 use Rattle.pb_tables.proofs.ChunkLemmas.{last_added, bad_last, cut_last}
 use Rattle.pb_tables.proofs.drafts.Draft.add_last.Goals as goal
 

@@ -1,4 +1,4 @@
-use Rattle.std.proofs.Common.{◌≡◌, ◌++◌, subst, arith}
+use Rattle.std.proofs.Common.{◌++◌, subst, arith}
 use Rattle.pb_tables.specs.Chunks.{words_in}
 use Rattle.pb_tables.specs.Held.{Holds}
 use Rattle.pb_tables.proofs.ChunkLemmas.{words_more}

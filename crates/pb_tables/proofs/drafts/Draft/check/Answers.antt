@@ -1,4 +1,4 @@
-use Rattle.std.proofs.Common.{◌≡◌, take, ap, arith}
+use Rattle.std.proofs.Common.{take, ap, arith}
 use Rattle.pb_tables.proofs.TableLemmas.{found_bad, none_bad}
 use Rattle.pb_tables.proofs.drafts.Draft.check.Goals as goal
 

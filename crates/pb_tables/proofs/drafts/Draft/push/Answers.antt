@@ -1,4 +1,4 @@
-use Rattle.std.proofs.Common.{◌≡◌, [], ◌∷◌, length, arith}
+use Rattle.std.proofs.Common.{[], ◌∷◌, arith}
 use Rattle.std.proofs.lemmas.List.{length-append}
 use Rattle.pb_tables.proofs.DraftLemmas.{held_more, held_full}
 use Rattle.pb_tables.proofs.drafts.Draft.push.Goals as goal

@@ -1,4 +1,4 @@
-use Rattle.std.proofs.Common.{◌≡◌, ℕ, List, [], take, refl, arith}
+use Rattle.std.proofs.Common.{◌≡◌, ℕ, take, refl, arith}
 use Rattle.std.proofs.Math.ListN.{length-set}
 use Rattle.std.proofs.lemmas.List.{take_all}
 use Rattle.pb_tables.proofs.ChunkLemmas.{no_letters, letter_waits, letter_first, letters_behind}

@@ -1,4 +1,4 @@
-use Rattle.std.proofs.Common.{ℕ, List, ◌≡◌, ◌≤◌, ◌+◌, ◌++◌, length, take}
+use Rattle.std.proofs.Common.{◌≡◌, ◌≤◌, ◌+◌, length, take}
 use Rattle.pb_tables.specs.Bodies.{letters}
 use Rattle.pb_tables.specs.Held.{AreLetters}
 use Rattle.pb_tables.proofs.drafts.Draft.read_base64.Given as goal
