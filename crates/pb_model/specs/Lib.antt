@@ -1,9 +1,1 @@
 pub mod Changes
-pub mod Kept
-pub mod Lending
-pub mod Machines
-pub mod Outputs
-pub mod Resting
-pub mod Settings
-pub mod Tick
-pub mod Units

@@ -1,7 +1,0 @@
-pub mod BusLemmas
-pub mod Mapped
-pub mod PlaceLemmas
-pub mod SettingLemmas
-pub mod ShownLemmas
-pub mod TickLemmas
-pub mod UnitLemmas
