@@ -4,26 +4,9 @@ use Rattle.std.proofs.lemmas.List.Elements.{All-head, All-tail}
 use Rattle.pb_words.specs.Numbers.{IsDigit, ReadsUint, WritesNumber}
 use Rattle.pb_words.specs.declared.NumFault.{NumFault}
 use Rattle.pb_words.specs.declared.NumFault.TheVariants as faults
-use Rattle.panda_sim.specs.Cuts.{BeginsNoDigit}
+use Rattle.pb_words.specs.Cuts.{BeginsNoDigit}
+use Rattle.pb_words.proofs.CutLemmas.{digits_cut_once}
 use Rattle.panda_sim.specs.Script.{Line, Deed, Skipped, Timed, Level, Command, End, Says, Follows, IsLine, WritesSigned}
-
--- Digits, and then no digit: there is one such cut.
-pub one_cut : (a b x y : List ℕ) → All IsDigit a → All IsDigit b → BeginsNoDigit x → BeginsNoDigit y → a ++ x ≡ b ++ y → (a ≡ b) × (x ≡ y)
-one_cut [] [] x y da db nx ny e = (refl, e)
-one_cut [] (c ∷ b) [] y da db nx ny e = cc
-one_cut [] (c ∷ b) (d ∷ x) y da db nx ny e =
-    let same : d ≡ c = cc in
-    absurd (nx (subst IsDigit (sym same) (All-head IsDigit c b db)))
-one_cut (c ∷ a) [] x [] da db nx ny e = cc
-one_cut (c ∷ a) [] x (d ∷ y) da db nx ny e =
-    let same : c ≡ d = cc in
-    absurd (ny (subst IsDigit same (All-head IsDigit c a da)))
-one_cut (c ∷ a) (d ∷ b) x y da db nx ny e =
-    let rest : a ++ x ≡ b ++ y = cc in
-    let more = one_cut a b x y (All-tail IsDigit c a da) (All-tail IsDigit d b db) nx ny rest in
-    let first : c ≡ d = cc in
-    let others : a ≡ b = more.0 in
-    (cc, more.1)
 
 -- a space is no digit
 space_first : (x : List ℕ) (rest : List ℕ) → rest ≡ 32 ∷ x → BeginsNoDigit rest
@@ -48,7 +31,7 @@ err_writes_none text limit n faults.TooLarge h w le = omega (arith, h.1, w.value
 -- the tick and the deed of a line, by its cut
 pub timed_parts : (text a x : List ℕ) (tick : ℕ) (deed : Deed) → text ≡ a ++ x → All IsDigit a → BeginsNoDigit x → IsLine text (Timed tick deed) → (tick < 2 ^ 62) × WritesNumber a tick × Says x deed
 timed_parts text a x tick deed e da nx h =
-    let cut = one_cut h.1 a h.2 x h.3.grammar.digits da (says_no_digit h.2 deed h.4) nx (sym h.5 ∙ e) in
+    let cut = digits_cut_once h.1 a h.2 x h.3.grammar.digits da (says_no_digit h.2 deed h.4) nx (sym h.5 ∙ e) in
     (h.0, subst (λ digits. WritesNumber digits tick) cut.0 h.3, subst (λ rest. Says rest deed) cut.1 h.4)
 
 -- neither an empty text nor a comment, and nothing at a tick
@@ -72,7 +55,7 @@ pub command_parts : (rest a x : List ℕ) (deed : Deed) → rest ≡ a ++ x → 
 command_parts rest a x (Level target value) e da nx h = absurd (omega (arith, ap (λ t. get_or t 1 0) h.4))
 command_parts rest a x (Command session text) e da nx h =
     let f : rest ≡ h.1 ++ h.2 = let g = h.5 in cc in
-    let cut = one_cut h.1 a h.2 x h.3.grammar.digits da (follows_no_digit h.2 text h.4) nx (sym f ∙ e) in
+    let cut = digits_cut_once h.1 a h.2 x h.3.grammar.digits da (follows_no_digit h.2 text h.4) nx (sym f ∙ e) in
     let number : WritesNumber h.1 1 = subst (λ n. WritesNumber h.1 n) h.0 h.3 in
     (text, subst (λ digits. WritesNumber digits 1) cut.0 number, subst (λ more. Follows more text) cut.1 h.4)
 command_parts rest a x End e da nx h = absurd (omega (arith, ap (λ t. get_or t 1 0) h))

@@ -4,11 +4,11 @@ use Rattle.std.specs.List.{flat_map}
 use Rattle.std.proofs.lemmas.List.{append_assoc, at_drop_more}
 use Rattle.pb_ports.specs.Ports.{Adds, Rose}
 use Rattle.pb_core.specs.declared.Event.{Event}
-use Rattle.pb_core.specs.Answer.{CoreState, after}
+use Rattle.pb_core.specs.Answer.{CoreState, after, after_all}
 use Rattle.panda_sim.specs.declared.statuses.Played.{Played}
 use Rattle.panda_sim.specs.declared.statuses.Played.TheVariants as ends
 use Rattle.panda_sim.specs.Output.{written, sections}
-use Rattle.panda_sim.specs.Plays.{AddsFront, Plays, after_all}
+use Rattle.panda_sim.specs.Plays.{AddsFront, Plays}
 
 -- some front of the bytes is added, and the rest is still to come
 pub record IsPlayed (all rest : List ℕ) (old now : Option (List ℕ)) : Type 0 where

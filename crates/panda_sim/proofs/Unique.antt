@@ -6,7 +6,8 @@ use Rattle.std.specs.Prelude.{if◌then◌else◌}
 use Rattle.pb_words.specs.Numbers.{IsDigit, IsUint, WritesNumber}
 use Rattle.pb_grammar.specs.Grammar.{IsText}
 use Rattle.panda_sim.specs.Script.{Line, Deed, Skipped, Timed, Level, Command, End, Says, Follows, IsLine, WritesSigned, Spells}
-use Rattle.panda_sim.proofs.LineLemmas.{one_cut, says_no_digit, follows_no_digit, timed_parts}
+use Rattle.pb_words.proofs.CutLemmas.{digits_cut_once}
+use Rattle.panda_sim.proofs.LineLemmas.{says_no_digit, follows_no_digit, timed_parts}
 
 -- a line ends at its first newline
 pub one_line : (a b x y : List ℕ) → IsText a → IsText b → a ++ 10 ∷ x ≡ b ++ 10 ∷ y → (a ≡ b) × (x ≡ y)
@@ -86,7 +87,7 @@ one_deed rest (Level t v) End h k = absurd (omega (arith, ap (λ l. get_or l 1 0
 one_deed rest (Command s x) (Level u w) h k = absurd (omega (arith, ap (λ l. get_or l 1 0) (sym h.5 ∙ k.4)))
 one_deed rest (Command s x) (Command t y) h k =
     let both : h.1 ++ h.2 ≡ k.1 ++ k.2 = ap (drop 3) (sym h.5 ∙ k.5) in
-    let cut = one_cut h.1 k.1 h.2 k.2 h.3.grammar.digits k.3.grammar.digits (follows_no_digit h.2 x h.4) (follows_no_digit k.2 y k.4) both in
+    let cut = digits_cut_once h.1 k.1 h.2 k.2 h.3.grammar.digits k.3.grammar.digits (follows_no_digit h.2 x h.4) (follows_no_digit k.2 y k.4) both in
     let session : s ≡ t = h.0 ∙ sym k.0 in
     let text : x ≡ y = same_follows k.2 x y (subst (λ more. Follows more x) cut.1 h.4) k.4 in
     cc

@@ -1,4 +1,3 @@
-pub mod Cuts
 pub mod Draft
 pub mod Lines
 pub mod Output

@@ -1,8 +1,6 @@
 -- What playing writes, by how it ends.
-use Rattle.std.specs.Prelude.{◌≡◌, ℕ, List, [], ◌∷◌, ◌++◌, Option}
+use Rattle.std.specs.Prelude.{◌≡◌, ℕ, List, ◌++◌, Option}
 use Rattle.pb_ports.specs.Ports.{Adds}
-use Rattle.pb_core.specs.declared.Event.{Event}
-use Rattle.pb_core.specs.Answer.{CoreState, after}
 use Rattle.panda_sim.specs.declared.statuses.Played.{Played}
 use Rattle.panda_sim.specs.declared.statuses.Played.TheVariants as ends
 
@@ -15,8 +13,3 @@ abbrev pub Plays : List ℕ → Played → Option (List ℕ) → Option (List �
 Plays bytes ends.Ok old new = Adds old bytes new
 Plays bytes ends.WriteFault old new = AddsFront old bytes new
 Plays bytes ends.OutOfMemory old new = AddsFront old bytes new
-
--- the core after all these events
-abbrev pub after_all : CoreState → List Event → CoreState
-after_all core [] = core
-after_all core (event ∷ events) = after_all (after core event) events

@@ -1,9 +1,9 @@
 ghost use Rattle.std.specs.Prelude.{◌≡◌, ℕ, ◌<◌, ◌≤◌, ◌++◌, ◌∷◌, [], ◌^◌, All, IfOk};
 ghost use Rattle.std.specs.List.{flat_map};
 ghost use Rattle.pb_ports.specs.Ports.{Rose};
-ghost use Rattle.pb_core.specs.Answer.{after};
+ghost use Rattle.pb_core.specs.Answer.{after, after_all};
 ghost use Rattle.panda_sim.specs.Output.{written, sections};
-ghost use Rattle.panda_sim.specs.Plays.{Plays, after_all};
+ghost use Rattle.panda_sim.specs.Plays.{Plays};
 ghost use Rattle.panda_sim.specs.Draft.{step_events, script_output};
 
 use crate::scripts::{Script, Step};

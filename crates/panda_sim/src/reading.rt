@@ -3,9 +3,8 @@ ghost use Rattle.pb_words.specs.Numbers.{WritesNumber};
 ghost use Rattle.panda_sim.specs.Script.{Line, Deed, Timed, WritesSigned, Says, IsLine};
 ghost use Rattle.panda_sim.specs.Lines.{line_of, deed_of};
 
-use crate::cuts::cut_digits;
 use crate::lines::{ReadDeed, ReadLine};
-use pb_words::{read_tick, read_u32};
+use pb_words::{cut_digits, read_tick, read_u32};
 
 /// The line that the text is, if any.
 pub(crate) fn read_line(text: &[u8]) -> Option<ReadLine<'_>>

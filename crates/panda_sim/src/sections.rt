@@ -1,11 +1,11 @@
-ghost use Rattle.std.specs.Prelude.{◌≡◌, ℕ, ◌<◌, ◌≤◌, ◌++◌, ◌^◌, length, decimal, OnOk, OnErr};
+ghost use Rattle.std.specs.Prelude.{◌≡◌, ℕ, ◌<◌, ◌≤◌, ◌++◌, ◌^◌, length, OnOk, OnErr};
 ghost use Rattle.pb_ports.specs.Ports.{Rose};
 ghost use Rattle.panda_sim.specs.Output.{section};
 ghost use Rattle.panda_sim.specs.Plays.{Plays};
 
 use crate::statuses::Played;
 use pb_ports::Sink;
-use pb_words::{OutOfMemory, Text, write_u64};
+use pb_words::{OutOfMemory, Text};
 
 /// Writes the answer to a control session as a section, which is built in the scratch text.
 pub(crate) fn write_section<K: Sink>(
@@ -37,19 +37,11 @@ fn build(tick: u64, session: u32, bytes: &[u8], text: &mut Text) -> Result<(), O
     ensures { OnOk result (text.new ≡ section tick session bytes.now) }
 {
     text.clear();
-    append_number(text, tick)?;
+    text.append_number(tick)?;
     text.append(b" C ")?;
-    append_number(text, u64::from(session))?;
+    text.append_number(u64::from(session))?;
     text.append(b" ")?;
-    append_number(text, bytes.len() as u64)?;
+    text.append_number(bytes.len() as u64)?;
     text.append(b"\n")?;
     text.append(bytes)
-}
-
-fn append_number(text: &mut Text, n: u64) -> Result<(), OutOfMemory>
-    ensures { OnOk result (text.new ≡ text.old ++ decimal n) }
-{
-    let mut digits = [0u8; 48];
-    let len = write_u64(n, &mut digits);
-    text.append(&digits[..len])
 }

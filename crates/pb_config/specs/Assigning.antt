@@ -1,10 +1,10 @@
 -- What an assignment does: which slots take one, which raw value a text gives, why it is refused, and
 -- what the settings are afterwards.
 use Rattle.std.specs.Prelude.{ℕ, nat_le, not, Bool, true, false, List, length, slice_set, Option, Some, None, Result, Ok, Err, if◌then◌else◌}
-use Rattle.pb_words.specs.Steps.{result_map}
+use Rattle.pb_words.specs.Refusing.{result_map}
 use Rattle.pb_words.specs.declared.Refusal.{Refusal}
 use Rattle.pb_words.specs.declared.Refusal.TheVariants as refusals
-use Rattle.pb_lut.specs.Functions.{without_spaces}
+use Rattle.pb_words.specs.Cuts.{without_spaces}
 use Rattle.pb_fields.specs.declared.Slot.{Slot}
 use Rattle.pb_fields.specs.declared.FieldType.{FieldType}
 use Rattle.pb_fields.specs.declared.FieldType.TheVariants as types

@@ -1,7 +1,7 @@
 ghost use Rattle.std.specs.Prelude.{◌≡◌, ℕ, ◌≤◌, ◌++◌, List, length, take, drop};
-ghost use Rattle.pb_lut.specs.Functions.{without_spaces};
+ghost use Rattle.pb_words.specs.Cuts.{without_spaces};
 
-use pb_words::put_front;
+use pb_words::{put_front, take_out_spaces};
 use std::marker::Model;
 
 const ROOM: usize = 128;
@@ -59,20 +59,4 @@ impl KeptText {
     {
         put_front(&self.bytes[..self.len], out)
     }
-}
-
-// Copies all bytes but the spaces to the front of `out`, and answers how many bytes these are.
-fn take_out_spaces(text: &[u8], out: &mut [u8]) -> usize
-    requires { length text.now ≤ length out.old }
-    ensures len { result ≤ length out.old }
-    ensures front { take result out.new ≡ without_spaces text.now }
-{
-    let mut n = 0;
-    for b in text {
-        if *b != b' ' {
-            out[n] = *b;
-            n += 1;
-        }
-    }
-    n
 }

@@ -1,5 +1,5 @@
 -- One event: what it answers, and what it leaves.
-use Rattle.std.specs.Prelude.{ℕ, ◌-◌, ◌<◌, ◌^◌, max, List, [], Result, Ok, Err, codes}
+use Rattle.std.specs.Prelude.{ℕ, ◌-◌, ◌<◌, ◌^◌, max, List, [], ◌∷◌, Result, Ok, Err, codes}
 use Rattle.pb_words.specs.declared.Refusal.{Refusal}
 use Rattle.pb_words.specs.Refusals.{line_of}
 use Rattle.pb_grammar.specs.Grammar.{Said, Query, Assign, Echo, Bad, command_of}
@@ -64,6 +64,11 @@ answer core (events.Advance to) = answers.Reached (max core.box.tick to)
 abbrev pub after : CoreState → Event → CoreState
 after core (events.Line id text) = said_after core (command_of text)
 after core (events.Advance to) = advanced core to
+
+-- the core after these events, one after the other
+abbrev pub after_all : CoreState → List Event → CoreState
+after_all core [] = core
+after_all core (event ∷ rest) = after_all (after core event) rest
 
 -- the bytes that a session writes for an answer
 abbrev pub bytes_of : Answer → List ℕ

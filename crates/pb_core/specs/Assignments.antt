@@ -3,7 +3,7 @@ use Rattle.std.specs.Prelude.{ℕ, ◌||◌, Bool, List, Result, Err, codes, if�
 use Rattle.std.specs.Option.{option_map_or}
 use Rattle.pb_words.specs.declared.Refusal.{Refusal}
 use Rattle.pb_words.specs.declared.Refusal.TheVariants as refusals
-use Rattle.pb_words.specs.Steps.{result_then, result_map}
+use Rattle.pb_words.specs.Refusing.{result_then, result_map}
 use Rattle.pb_fields.specs.declared.Slot.{Slot}
 use Rattle.pb_fields.specs.Finding.{found_of, block_found}
 use Rattle.pb_config.specs.Assigning.{raw_given, assigned, change_of}

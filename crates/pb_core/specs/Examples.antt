@@ -3,16 +3,11 @@ use Rattle.std.specs.Prelude.{ℕ, pos, List, [], ◌∷◌, codes}
 use Rattle.pb_core.specs.declared.events.Event.{Event}
 use Rattle.pb_core.specs.declared.events.Event.TheVariants as events
 use Rattle.pb_core.specs.declared.events.Answer.{Answer}
-use Rattle.pb_core.specs.Answer.{CoreState, opening, answer, after}
+use Rattle.pb_core.specs.Answer.{CoreState, opening, answer, after, after_all}
 
 -- session 1 sends these bytes
 abbrev pub line : List ℕ → Event
 line bytes = events.Line 1 bytes
-
--- the core after these events, one after the other
-abbrev pub after_all : CoreState → List Event → CoreState
-after_all core [] = core
-after_all core (event ∷ rest) = after_all (after core event) rest
 
 -- the core at this tick
 abbrev pub at_tick : ℕ → CoreState → CoreState

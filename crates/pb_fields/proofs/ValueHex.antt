@@ -7,7 +7,8 @@ use Rattle.std.proofs.lemmas.Bool.{ne_eqb}
 use Rattle.std.proofs.lemmas.Bool.Decides.{nat_tests}
 use Rattle.std.proofs.lemmas.List.Elements.{All-cons, All-nil, All-head, All-tail}
 use Rattle.pb_words.specs.Hex.{hex_digit, hex_digit_at, hex_text}
-use Rattle.pb_lut.specs.Functions.{WritesFunction, without_spaces}
+use Rattle.pb_words.specs.Cuts.{without_spaces}
+use Rattle.pb_lut.specs.Functions.{WritesFunction}
 
 -- the value of a digit
 hex_value : (m : ℕ) → m < 16 → digit_value (hex_digit m) ≡ m

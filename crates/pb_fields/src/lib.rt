@@ -10,7 +10,6 @@ mod finding;
 mod kinds;
 mod labels;
 mod laws;
-mod lines;
 mod names;
 mod orders;
 mod roles;

@@ -2,10 +2,10 @@ ghost use Rattle.std.specs.Prelude.{◌≡◌, ◌<◌, ◌≤◌, ◌++◌, len
 ghost use Rattle.pb_fields.specs.Names.{target_of};
 ghost use Rattle.pb_fields.specs.Slots.{IsSlot};
 
-use crate::lines::Line;
 use crate::slots::{Slot, attribute, instances};
 use crate::tables::{block_at, field_at};
 use crate::types::attribute_name;
+use pb_words::Line;
 
 /// Writes the slot's printed target, as `LUT1.INPA.DELAY`, at the front of `out`, and answers its length.
 pub fn name(slot: Slot, out: &mut [u8]) -> usize

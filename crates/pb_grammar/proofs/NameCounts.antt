@@ -1,8 +1,9 @@
 -- How many names a text is, byte by byte.
 use Rattle.std.proofs.Common.{◌≡◌, ◌==◌, ℕ, ◌+◌, ◌<◌, Bool, true, false, cond, not, nat_lt, ◌&&◌, ◌||◌, if◌then◌else◌, List, [], ◌∷◌, length, refl, ap, ◌∙◌, arith}
-use Rattle.std.specs.List.{list_all}
+use Rattle.std.specs.List.{list_all, onto_first}
 use Rattle.std.proofs.lemmas.Bool.{cond_both, cond-true, cond-false, lt-ltb, or_right}
-use Rattle.pb_grammar.specs.Grammar.{is_name_byte, is_name, onto_first, pieces, names_in}
+use Rattle.pb_grammar.specs.Targets.{is_name_byte, is_name}
+use Rattle.pb_grammar.specs.Grammar.{pieces, names_in}
 
 -- how many names the text is where it goes on behind that many, the last of them still without a byte
 -- if it is empty; 0 for any other text

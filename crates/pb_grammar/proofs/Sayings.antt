@@ -9,6 +9,7 @@ use Rattle.std.proofs.Math.Seq.{take-append_seam, drop-append_seam}
 use Rattle.pb_words.specs.declared.refusals.Refusal.TheVariants as refusals
 use Rattle.pb_grammar.specs.Grammar.{Said, Query, Assign, Echo, Bad, Says, after_front, before_end, is_target, is_deciding, echo_in, malformed, decided, decided_at, plainly_said}
 use Rattle.pb_grammar.proofs.Fronts.{Follows, after_front_follows, after_front_of, Precedes, before_end_precedes, before_end_of}
+use Rattle.pb_grammar.proofs.TargetCuts.{target_iff}
 use Rattle.pb_grammar.proofs.TargetBytes.{is_target_byte, AreTargetBytes, target_bytes}
 
 -- what a sound text says
@@ -30,12 +31,12 @@ known target sign rest =
 known_speaks : (target : List ℕ) (sign : ℕ) (rest : List ℕ) → is_target target ≡ true → Speaks (target ++ sign ∷ rest) (known target sign rest)
 known_speaks target sign rest is =
     cond_both (sign == 61) (Assign target rest) (cond (sign == 63 && length rest == 0) (Query target) malformed) (Speaks (target ++ sign ∷ rest))
-    (λ e. (is, ap (λ b. target ++ b ∷ rest) (eqb-true sign 61 e) ∙ sym (append_assoc target (codes "=") rest)))
+    (λ e. ((target_iff target).1 is, ap (λ b. target ++ b ∷ rest) (eqb-true sign 61 e) ∙ sym (append_assoc target (codes "=") rest)))
     (λ _.
     cond_both (sign == 63 && length rest == 0) (Query target) malformed (Speaks (target ++ sign ∷ rest))
     (λ e.
     let parts = and_parts (sign == 63) (length rest == 0) e in
-    (is, ap (λ b. target ++ b ∷ rest) (eqb-true sign 63 parts.0) ∙ ap (λ t. target ++ 63 ∷ t) (nil_from_length rest (eqb-true (length rest) 0 parts.1))))
+    ((target_iff target).1 is, ap (λ b. target ++ b ∷ rest) (eqb-true sign 63 parts.0) ∙ ap (λ t. target ++ 63 ∷ t) (nil_from_length rest (eqb-true (length rest) 0 parts.1))))
     (λ _. refl))
 
 decided_speaks : (target : List ℕ) (sign : ℕ) (rest : List ℕ) → Speaks (target ++ sign ∷ rest) (decided target sign rest)
@@ -136,9 +137,11 @@ saying_echo words =
 
 pub says_saying : (text : List ℕ) (said : Said) → Says text said → saying text ≡ said
 says_saying text (Query target) h =
-    ap saying h.1 ∙ saying_decided target 63 [] h.0 refl ∙ ap (λ t. cond (not t) malformed (Query target)) h.0
+    let is = (target_iff target).0 h.0 in
+    ap saying h.1 ∙ saying_decided target 63 [] is refl ∙ ap (λ t. cond (not t) malformed (Query target)) is
 says_saying text (Assign target value) h =
-    ap saying (h.1 ∙ append_assoc target (codes "=") value) ∙ saying_decided target 61 value h.0 refl
-    ∙ ap (λ t. cond (not t) malformed (Assign target value)) h.0
+    let is = (target_iff target).0 h.0 in
+    ap saying (h.1 ∙ append_assoc target (codes "=") value) ∙ saying_decided target 61 value is refl
+    ∙ ap (λ t. cond (not t) malformed (Assign target value)) is
 says_saying text (Echo words) h = ap saying h ∙ saying_echo words
 says_saying text (Bad refusal) h = absurd h

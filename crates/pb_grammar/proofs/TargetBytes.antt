@@ -4,7 +4,8 @@ use Rattle.std.specs.List.{list_all}
 use Rattle.std.specs.Option.{option_map_or}
 use Rattle.std.proofs.lemmas.Bool.{cond_both, and_from, and_parts, or_left, or_right, leb-true}
 use Rattle.std.proofs.lemmas.List.Folds.{list_all-append}
-use Rattle.pb_grammar.specs.Grammar.{after_front, before_end, is_name_byte, names_in, is_within, is_plain_target, is_listed, is_star, is_target}
+use Rattle.pb_grammar.specs.Targets.{is_name_byte}
+use Rattle.pb_grammar.specs.Grammar.{after_front, before_end, names_in, is_within, is_plain_target, is_listed, is_star, is_target}
 use Rattle.pb_grammar.proofs.Fronts.{Follows, after_front_follows, Precedes, before_end_precedes}
 use Rattle.pb_grammar.proofs.NameCounts.{names_on, names_on_all}
 

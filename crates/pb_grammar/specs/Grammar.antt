@@ -1,11 +1,11 @@
 -- The control grammar: which bytes are which command.
-use Rattle.std.specs.Prelude.{◌≡◌, ◌≢◌, ℕ, ◌-◌, ◌≤◌, ◌<◌, ◌==◌, ◌&&◌, ◌||◌, nat_eq, nat_le, nat_lt, not, Bool, true, false, List, [], ◌∷◌, ◌++◌, length, take, drop, position, All, Option, Some, None, codes, IsTrue, if◌then◌else◌}
-use Rattle.std.specs.List.{list_all}
-use Rattle.std.specs.Char.{is_ascii_alphanumeric}
+use Rattle.std.specs.Prelude.{◌≡◌, ◌≢◌, ℕ, ◌-◌, ◌≤◌, ◌<◌, ◌==◌, ◌&&◌, ◌||◌, nat_eq, nat_le, nat_lt, not, Bool, true, false, List, [], ◌∷◌, ◌++◌, length, take, drop, position, All, Option, Some, None, codes, if◌then◌else◌}
+use Rattle.std.specs.List.{list_all, slice_split}
 use Rattle.std.specs.Cmp.Lexicographic.{pointwise}
 use Rattle.std.specs.Option.{option_map, option_map_or, option_and_then}
 use Rattle.pb_words.specs.declared.refusals.Refusal.{Refusal}
 use Rattle.pb_words.specs.declared.refusals.Refusal.TheVariants as refusals
+use Rattle.pb_grammar.specs.Targets.{IsTargetText, is_name}
 use Rattle.pb_grammar.specs.declared.commands.Command.{Command}
 use Rattle.pb_grammar.specs.declared.commands.Command.TheVariants as commands
 
@@ -26,54 +26,6 @@ before_end end text =
     if pointwise nat_eq (drop (length text - length end) text) end
     then Some (take (length text - length end) text)
     else None
-
--- Targets.
-
--- a letter, a digit or `_`
-abbrev pub is_name_byte : ℕ → Bool
-is_name_byte b = is_ascii_alphanumeric b || b == 95
-
--- one or more of them
-abbrev pub is_name : List ℕ → Bool
-is_name text = nat_lt 0 (length text) && list_all is_name_byte text
-
--- the byte put before the first piece
-abbrev pub onto_first : ℕ → List (List ℕ) → List (List ℕ)
-onto_first b [] = (b ∷ []) ∷ []
-onto_first b (piece ∷ pieces) = (b ∷ piece) ∷ pieces
-
--- what stands between the points of a text
-abbrev pub pieces : List ℕ → List (List ℕ)
-pieces [] = [] ∷ []
-pieces (b ∷ bs) = if b == 46 then [] ∷ pieces bs else onto_first b (pieces bs)
-
--- how many names with points between them the text is; 0 for any other text
-unfoldable pub names_in : List ℕ → ℕ
-names_in text = if list_all is_name (pieces text) then length (pieces text) else 0
-
--- the number is from low to high
-abbrev pub is_within : ℕ → ℕ → ℕ → Bool
-is_within low high n = nat_le low n && nat_le n high
-
--- `LUT1.INPA`, or with an attribute `LUT1.INPA.DELAY`
-abbrev pub is_plain_target : List ℕ → Bool
-is_plain_target text = is_within 2 3 (names_in text)
-
--- what stands before `.*` is the name of a block, or a field
-abbrev pub is_listed : List ℕ → Bool
-is_listed front = is_within 1 2 (names_in front)
-
--- what stands after `*` is one to four names
-abbrev pub is_star : List ℕ → Bool
-is_star name = is_within 1 4 (names_in name)
-
--- a field or an attribute; all fields of a block, as `LUT1.*`, or all attributes of a field, as
--- `LUT1.INPA.*`; or what isn't of a block, as `*IDN`
-unfoldable pub is_target : List ℕ → Bool
-is_target text =
-    option_map_or is_star
-    (after_front (codes "*") text)
-    (option_map_or is_listed (before_end (codes ".*") text) (is_plain_target text))
 
 -- Commands.
 
@@ -100,9 +52,9 @@ pub record IsSound (text : List ℕ) : Type 0 where
 -- What the text of a line says, where it says anything.
 abbrev pub Says : List ℕ → Said → Type 0
 -- `LUT1.FUNC?`
-Says text (Query target) = IsTrue (is_target target) × (text ≡ target ++ codes "?")
+Says text (Query target) = IsTargetText target × (text ≡ target ++ codes "?")
 -- `LUT1.FUNC=A&B`
-Says text (Assign target value) = IsTrue (is_target target) × (text ≡ target ++ codes "=" ++ value)
+Says text (Assign target value) = IsTargetText target × (text ≡ target ++ codes "=" ++ value)
 -- `*ECHO Is anybody there?`
 Says text (Echo words) = text ≡ codes "*ECHO " ++ words ++ codes "?"
 Says text (Bad refusal) = ⊥
@@ -131,6 +83,38 @@ IsCommand bytes (Bad refusal) = IsBad bytes refusal
 IsCommand bytes said = IsSaid bytes said
 
 -- The same, computed.
+
+-- what stands between the points of a text
+abbrev pub pieces : List ℕ → List (List ℕ)
+pieces text = slice_split (λ b. b == 46) text
+
+-- how many names with points between them the text is; 0 for any other text
+unfoldable pub names_in : List ℕ → ℕ
+names_in text = if list_all is_name (pieces text) then length (pieces text) else 0
+
+-- the number is from low to high
+abbrev pub is_within : ℕ → ℕ → ℕ → Bool
+is_within low high n = nat_le low n && nat_le n high
+
+-- `LUT1.INPA`, or with an attribute `LUT1.INPA.DELAY`
+abbrev pub is_plain_target : List ℕ → Bool
+is_plain_target text = is_within 2 3 (names_in text)
+
+-- what stands before `.*` is the name of a block, or a field
+abbrev pub is_listed : List ℕ → Bool
+is_listed front = is_within 1 2 (names_in front)
+
+-- what stands after `*` is one to four names
+abbrev pub is_star : List ℕ → Bool
+is_star name = is_within 1 4 (names_in name)
+
+-- a field or an attribute; all fields of a block, as `LUT1.*`, or all attributes of a field, as
+-- `LUT1.INPA.*`; or what isn't of a block, as `*IDN`
+unfoldable pub is_target : List ℕ → Bool
+is_target text =
+    option_map_or is_star
+    (after_front (codes "*") text)
+    (option_map_or is_listed (before_end (codes ".*") text) (is_plain_target text))
 
 -- what stands before the newline, where that is the last byte and the only newline
 abbrev pub line_text : List ℕ → Option (List ℕ)

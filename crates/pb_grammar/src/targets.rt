@@ -1,5 +1,6 @@
-ghost use Rattle.std.specs.Prelude.{◌≡◌};
-ghost use Rattle.pb_grammar.specs.Grammar.{is_name_byte, is_target, is_within, names_in};
+ghost use Rattle.std.specs.Prelude.{◌≡◌, ℕ, List, true, ◌↔◌};
+ghost use Rattle.pb_grammar.specs.Targets.{is_name_byte, Target, WritesTarget, IsTargetText};
+ghost use Rattle.pb_grammar.specs.Grammar.{is_target, is_within, names_in};
 
 /// Whether the text is a target: a field or an attribute, as `LUT1.INPA.DELAY`, all fields of a block or
 /// all attributes of a field, as `LUT1.*`, or `*` and one to four names, as `*ENUMS.LUT1.INPA`.
@@ -50,3 +51,13 @@ fn is_name_byte(b: u8) -> bool
 {
     b.is_ascii_alphanumeric() || b == b'_'
 }
+
+/// A text is a target exactly where the test is true of it.
+pub fn targets_are_computed()
+    ensures { (text : List ℕ) → IsTargetText text ↔ (is_target text ≡ true) }
+{}
+
+/// No text is two targets.
+pub fn targets_are_read_in_one_way()
+    ensures { (text : List ℕ) (s t : Target) → WritesTarget text s → WritesTarget text t → s ≡ t }
+{}

@@ -8,9 +8,10 @@ use Rattle.std.specs.Cmp.Lexicographic.{pointwise, bytes_decides}
 use Rattle.std.proofs.lemmas.Bool.{cases_Bool, and_parts, false_from_ne_true, ltb-true, ltb-false, leb-true, lt-ltb, le-ltb, le-leb, cond-true, cond-false, ne_eqb, eq-eqb}
 use Rattle.std.proofs.lemmas.Bool.Decides.{Decides-by_and, Decides-ltb}
 use Rattle.std.proofs.lemmas.Option.{cond_some, option_and_then_some}
+use Rattle.pb_words.specs.Cuts.{without_spaces}
 use Rattle.pb_lut.specs.Expressions.{Level, Letter, Tree, ors, xors, ands, nots, atoms, only_xor, or_of, only_and, xor_of, only_not, and_of, only_atom, not_of, letter, parens, code_of, print, number}
 use Rattle.pb_lut.specs.Readings.{BeginsWith, Ends}
-use Rattle.pb_lut.specs.Functions.{WritesHexDigits, WritesHex, WritesExpression, WritesFunction, without_spaces}
+use Rattle.pb_lut.specs.Functions.{WritesHexDigits, WritesHex, WritesExpression, WritesFunction}
 use Rattle.pb_lut.specs.Computed.{behind, tree_at, expression_of, hex_of, number_in, function_of}
 use Rattle.pb_lut.proofs.ReadingLemmas.{letter_of-code, code-ge, code-le, joined, bar_ends, hat_ends, bracket_ends}
 use Rattle.pb_lut.proofs.FunctionLemmas.{at_end, alone, hex_no_expression}

@@ -1,15 +1,18 @@
 -- The two ways to write a function, and that a text is written in at most one of them.
-use Rattle.std.proofs.Common.{◌≡◌, ℕ, ◌+◌, ◌*◌, ◌^◌, ◌<◌, ◌≤◌, ◌⊎◌, inl, inr, List, [], ◌∷◌, ◌++◌, length, get_or, drop, Option, Some, None, IfSome, IfNone, Ok, ap, sym, ◌∙◌, subst, arith, lit<}
-use Rattle.std.proofs.lemmas.List.{append-nil, nil_from_length, at_drop_more, at_drop_all}
+use Rattle.std.proofs.Common.{◌≡◌, ◌==◌, ℕ, ◌+◌, ◌*◌, ◌^◌, ◌<◌, ◌≤◌, ◌⊎◌, Bool, true, false, refl, inl, inr, List, [], ◌∷◌, ◌++◌, length, get_or, drop, Option, Some, None, IfSome, IfNone, Ok, ap, sym, ◌∙◌, subst, arith, lit<}
+use Rattle.std.proofs.lemmas.List.{append-nil, at_drop_more, at_drop_all}
 use Rattle.std.proofs.Math.Nat.{pow-le-pow_right}
 use Rattle.std.proofs.lemmas.Grind.{pow_more}
 use Rattle.std.specs.Option.{ok_or}
 use Rattle.std.specs.Char.{digit_value}
+use Rattle.std.specs.Int.{bit_at}
 use Rattle.pb_words.specs.declared.refusals.Refusal.{Refusal}
 use Rattle.std.specs.Str.Parse.{digits_value, digits_value_after}
-use Rattle.pb_lut.specs.Expressions.{Tree, ors, only_xor, only_and, only_not, only_atom, letter, zero_bit, print, number}
+use Rattle.pb_words.specs.Cuts.{without_spaces}
+use Rattle.pb_lut.specs.Expressions.{Tree, ors, only_xor, only_and, only_not, only_atom, letter, zero_bit, print, number, Inputs, value, bit, place}
 use Rattle.pb_lut.specs.Readings.{Ends, Reads, ReadsNothing}
-use Rattle.pb_lut.specs.Functions.{WritesHexDigits, WritesHex, WritesExpression, WritesFunction, without_spaces}
+use Rattle.pb_lut.specs.Functions.{WritesHexDigits, WritesHex, WritesExpression, WritesFunction, WritesTree, table_output}
+use Rattle.pb_lut.proofs.ExpressionLemmas.{bit_at-number}
 use Rattle.pb_lut.proofs.ReadingLemmas.{cut, print-injective}
 
 pub at_end : Ends ors []
@@ -17,14 +20,6 @@ at_end = (λ h. h, λ h. h, λ h. h)
 
 pub alone : (text : List ℕ) (t : Tree ors) → text ≡ print t → text ≡ print t ++ []
 alone text t e = e ∙ sym (append-nil (print t))
-
-pub WritesExpression-read : {text rest : List ℕ} {n : ℕ} → Reads ors text n rest → length rest ≡ 0 → WritesExpression text n
-WritesExpression-read {rest = rest} r h =
-    record {
-      tree = r.tree;
-      written = r.written ∙ ap (λ z. print r.tree ++ z) (nil_from_length rest h) ∙ append-nil (print r.tree);
-      value = r.value;
-    }
 
 pub no_expression : {text : List ℕ} → ReadsNothing ors text → (n : ℕ) → ¬ (WritesExpression text n)
 no_expression {text} h n w =
@@ -88,3 +83,21 @@ no_function h k n (inr w) = k n w
 pub found_once : (o : Option ℕ) (refusal : Refusal) (text : List ℕ) → IfSome o (λ n. WritesHex text n ⊎ WritesExpression text n) → IfNone o ((n : ℕ) → ¬ (WritesHex text n ⊎ WritesExpression text n)) → (n : ℕ) → WritesHex text n ⊎ WritesExpression text n → ok_or o refusal ≡ Ok n
 found_once None refusal text found none n w = absurd (none n w)
 found_once (Some m) refusal text found none n w = ap Ok (written_once text m n found w)
+
+-- The output of a table that is set to an expression.
+
+pub WritesFunction-expression : (text : List ℕ) (t : Tree ors) → WritesTree text t → WritesFunction text (number t)
+WritesFunction-expression text t w =
+    record { short = w.short; written = inr (record { tree = t; written = w.written; value = refl }) }
+
+pub number-expression : (text : List ℕ) (n : ℕ) (t : Tree ors) → WritesFunction text n → WritesTree text t → n ≡ number t
+number-expression text n t f w = WritesFunction-unique text n (number t) f (WritesFunction-expression text t w)
+
+bit_is : (p : Bool) → (bit p == 1) ≡ p
+bit_is true = refl
+bit_is false = refl
+
+pub table_output-expression : (text : List ℕ) (n : ℕ) (t : Tree ors) (x : Inputs) → WritesFunction text n → WritesTree text t → table_output n x ≡ value x t
+table_output-expression text n t x f w =
+    ap (λ m. bit_at m (place x) == 1) (number-expression text n t f w)
+    ∙ ap (λ m. m == 1) (bit_at-number x t) ∙ bit_is (value x t)

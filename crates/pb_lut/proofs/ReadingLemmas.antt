@@ -1,10 +1,11 @@
 -- A text is cut in one way into an expression and what follows it.
-use Rattle.std.proofs.Common.{◌≡◌, ℕ, ◌-◌, ◌<◌, ◌≤◌, List, [], ◌∷◌, ◌++◌, length, get_or, take, drop, bit_and, bit_or, bit_xor, Option, Some, None, IfNone, refl, ap, sym, ◌∙◌, arith, append_assoc, length-append}
+use Rattle.std.proofs.Common.{◌≡◌, ℕ, ◌-◌, ◌<◌, ◌≤◌, List, [], ◌∷◌, ◌++◌, length, get_or, take, drop, bit_and, bit_or, bit_xor, Option, Some, None, IfNone, refl, ap, sym, ◌∙◌, arith, append_assoc}
 use Rattle.std.specs.Option.{option_map}
 use Rattle.std.proofs.lemmas.List.{take_all}
 use Rattle.std.proofs.lemmas.Bool.Decides.{nat_tests}
 use Rattle.pb_lut.specs.Expressions.{Level, Letter, input_a, input_b, input_c, input_d, input_e, zero_bit, one_bit, Tree, ors, xors, ands, nots, atoms, only_xor, or_of, only_and, xor_of, only_not, and_of, only_atom, not_of, letter, parens, code_of, print, number, letter_number}
-use Rattle.pb_lut.specs.Readings.{BeginsWith, Ends, Reads, ReadsNothing, letter_of}
+use Rattle.pb_lut.specs.Readings.{BeginsWith, Ends, Reads, ReadsNothing}
+use Rattle.pb_lut.specs.Computed.{letter_of}
 
 pub letter_of-code : (y : Letter) → letter_of (code_of y) ≡ Some y
 letter_of-code input_a = refl
@@ -144,10 +145,6 @@ IfNone-by (Some x) f p = tt
 pub front : (text : List ℕ) → 0 < length text → text ≡ get_or text 0 0 ∷ take (length text - 1) (drop 1 text)
 front [] h = absurd (omega arith)
 front (c ∷ text) h = ap (λ z. c ∷ z) (sym (take_all (length (c ∷ text) - 1) text (omega arith)))
-
--- what is left is no longer than the text
-pub rest-le : {l : Level} {text rest : List ℕ} {n : ℕ} → Reads l text n rest → length rest ≤ length text
-rest-le {rest = rest} r = omega (arith, ap length r.written, length-append (print r.tree) rest)
 
 pub Reads-only_xor : {text rest : List ℕ} {n : ℕ} → Reads xors text n rest → ¬ (BeginsWith 124 rest) → Reads ors text n rest
 Reads-only_xor r h = record { tree = only_xor r.tree; written = r.written; value = r.value; ends = (h, r.ends.0, r.ends.1) }

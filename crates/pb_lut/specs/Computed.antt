@@ -5,14 +5,24 @@ use Rattle.std.specs.Char.{digit_value}
 use Rattle.std.specs.Str.Parse.{digits_value}
 use Rattle.std.specs.Cmp.Lexicographic.{pointwise}
 use Rattle.std.specs.Option.{option_map, option_map_or, option_and_then}
-use Rattle.pb_lut.specs.Expressions.{Level, ors, xors, ands, nots, atoms, Tree, only_xor, or_of, only_and, xor_of, only_not, and_of, only_atom, not_of, letter, parens, print, number}
-use Rattle.pb_lut.specs.Functions.{without_spaces}
-use Rattle.pb_lut.specs.Readings.{letter_of}
+use Rattle.pb_words.specs.Cuts.{without_spaces}
+use Rattle.pb_lut.specs.Expressions.{Level, ors, xors, ands, nots, atoms, Letter, input_a, input_b, input_c, input_d, input_e, zero_bit, one_bit, Tree, only_xor, or_of, only_and, xor_of, only_not, and_of, only_atom, not_of, letter, parens, print, number}
 
 -- what follows the byte, where the text begins with it
 abbrev pub behind : ℕ → List ℕ → Option (List ℕ)
 behind b [] = None
 behind b (c ∷ text) = if c == b then Some text else None
+
+-- the letter of a byte
+abbrev pub letter_of : ℕ → Option Letter
+letter_of c =
+    if c == 65 then Some input_a else
+    (if c == 66 then Some input_b else
+    (if c == 67 then Some input_c else
+    (if c == 68 then Some input_d else
+    (if c == 69 then Some input_e else
+    (if c == 48 then Some zero_bit else
+    (if c == 49 then Some one_bit else None))))))
 
 -- a letter at the front of the text
 abbrev pub letter_at : List ℕ → Option (Tree atoms × List ℕ)

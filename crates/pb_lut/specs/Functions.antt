@@ -1,12 +1,10 @@
 -- The text that sets a lookup table, and the number that it writes.
-use Rattle.std.specs.Prelude.{◌≡◌, ℕ, ◌<◌, ◌≤◌, ◌⊎◌, not, ◌==◌, List, ◌++◌, length, filter, All, codes}
+use Rattle.std.specs.Prelude.{◌≡◌, ℕ, ◌<◌, ◌≤◌, ◌⊎◌, ◌==◌, Bool, List, ◌++◌, length, All, codes}
 use Rattle.std.specs.Char.{digit_value}
+use Rattle.std.specs.Int.{bit_at}
 use Rattle.std.specs.Str.Parse.{digits_value}
-use Rattle.pb_lut.specs.Expressions.{Tree, ors, print, number}
-
--- the text without its spaces
-abbrev pub without_spaces : List ℕ → List ℕ
-without_spaces text = filter (λ b. not (b == 32)) text
+use Rattle.pb_words.specs.Cuts.{without_spaces}
+use Rattle.pb_lut.specs.Expressions.{Tree, ors, print, number, Inputs, place}
 
 -- these are one to eight hexadecimal digits, of either case, and n is their number
 pub record WritesHexDigits (digits : List ℕ) (n : ℕ) : Type 0 where
@@ -32,3 +30,12 @@ pub record WritesExpression (text : List ℕ) (n : ℕ) : Type 0 where
 pub record WritesFunction (text : List ℕ) (n : ℕ) : Type 0 where
   pub short : length text ≤ 128
   pub written : WritesHex (without_spaces text) n ⊎ WritesExpression (without_spaces text) n
+
+-- the text is this expression, with spaces anywhere, and short enough to set a lookup table
+pub record WritesTree (text : List ℕ) (t : Tree ors) : Type 0 where
+  pub short : length text ≤ 128
+  pub written : without_spaces text ≡ print t
+
+-- the output of a lookup table with this function, one tick after its inputs are these
+abbrev pub table_output : ℕ → Inputs → Bool
+table_output n x = bit_at n (place x) == 1

@@ -1,6 +1,7 @@
+-- Words of private helpers: no public clause cites them.
 -- What the readers of an expression answer.
-use Rattle.std.specs.Prelude.{◌≡◌, ℕ, List, [], ◌∷◌, ◌++◌, Option, Some, None, if◌then◌else◌, ◌==◌}
-use Rattle.pb_lut.specs.Expressions.{Level, ors, xors, ands, nots, atoms, Letter, input_a, input_b, input_c, input_d, input_e, zero_bit, one_bit, Tree, print, number}
+use Rattle.std.specs.Prelude.{◌≡◌, ℕ, List, [], ◌∷◌, ◌++◌}
+use Rattle.pb_lut.specs.Expressions.{Level, ors, xors, ands, nots, atoms, Tree, print, number}
 
 -- the first byte of the text is b
 abbrev pub BeginsWith : ℕ → List ℕ → Type 0
@@ -26,14 +27,3 @@ pub record Reads (level : Level) (text : List ℕ) (n : ℕ) (rest : List ℕ) :
 -- no expression of this level stands there
 abbrev pub ReadsNothing : Level → List ℕ → Type 0
 ReadsNothing level text = (n : ℕ) (rest : List ℕ) → ¬ (Reads level text n rest)
-
--- the letter of a byte
-abbrev pub letter_of : ℕ → Option Letter
-letter_of c =
-    if c == 65 then Some input_a else
-    (if c == 66 then Some input_b else
-    (if c == 67 then Some input_c else
-    (if c == 68 then Some input_d else
-    (if c == 69 then Some input_e else
-    (if c == 48 then Some zero_bit else
-    (if c == 49 then Some one_bit else None))))))

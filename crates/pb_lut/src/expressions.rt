@@ -1,7 +1,8 @@
 ghost use Rattle.std.specs.Prelude.{◌≡◌, ◌≢◌, ℕ, List, ◌∷◌, IfSome, IfNone};
 ghost use Rattle.std.specs.Option.{option_map};
 ghost use Rattle.pb_lut.specs.Expressions.{ors, xors, ands, nots, atoms, letter_number};
-ghost use Rattle.pb_lut.specs.Readings.{BeginsWith, Reads, ReadsNothing, letter_of};
+ghost use Rattle.pb_lut.specs.Readings.{BeginsWith, Reads, ReadsNothing};
+ghost use Rattle.pb_lut.specs.Computed.{letter_of};
 
 // Each reader takes an expression of its level from the front of a text without spaces, as much as
 // there is, and answers its number and what is left.

@@ -1,13 +1,21 @@
 ghost use Rattle.std.specs.Prelude.{◌≡◌, ℕ, ◌^◌, ◌<◌, ◌↔◌, List, Some, None, codes};
 ghost use Rattle.std.specs.Int.{bit_at};
 ghost use Rattle.pb_lut.specs.Expressions.{Tree, ors, Inputs, print, value, bit, place, number};
-ghost use Rattle.pb_lut.specs.Functions.{WritesFunction};
+ghost use Rattle.pb_lut.specs.Functions.{WritesFunction, WritesTree, table_output};
 ghost use Rattle.pb_lut.specs.Computed.{function_of};
 
 /// The number of an expression has 32 bits, and each is the expression's value at one state of the inputs.
 pub fn each_bit_is_a_value()
     ensures fits { (t : Tree ors) → number t < 2 ^ 32 }
     ensures each { (t : Tree ors) (x : Inputs) → bit_at (number t) (place x) ≡ bit (value x t) }
+{}
+
+/// A text that is an expression sets a lookup table to the expression's number, and whatever the table is
+/// set to by such a text, its output is the expression's value at its inputs.
+pub fn tables_put_out_the_expression()
+    ensures number { (text : List ℕ) (t : Tree ors) → WritesTree text t → WritesFunction text (number t) }
+    ensures output { (text : List ℕ) (n : ℕ) (t : Tree ors) (x : Inputs) → WritesFunction text n → WritesTree text t
+        → table_output n x ≡ value x t }
 {}
 
 /// No text can be read as two expressions.

@@ -10,5 +10,5 @@ mod laws;
 pub use functions::parse;
 pub use laws::{
     computed_numbers, each_bit_is_a_value, functions_are_computed, one_number, one_reading,
-    worked_numbers,
+    tables_put_out_the_expression, worked_numbers,
 };

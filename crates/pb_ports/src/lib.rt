@@ -9,8 +9,6 @@ mod mem_sources;
 mod reader_sources;
 mod sinks;
 mod sources;
-#[cfg(test)]
-mod tests;
 mod writer_sinks;
 
 pub use mem_sinks::MemSink;

@@ -1,4 +1,4 @@
-ghost use Rattle.std.specs.Prelude.{◌≡◌, ℕ, ◌+◌, ◌<◌, ◌≤◌, [], ◌++◌, length, map, replicate, decimal, is_some, true, OnOk};
+ghost use Rattle.std.specs.Prelude.{◌≡◌, ℕ, ◌+◌, ◌<◌, ◌≤◌, [], ◌++◌, length, map, replicate, is_some, true, OnOk};
 ghost use Rattle.std.specs.List.{flat_map, range_with_len};
 ghost use Rattle.std.specs.Option.{unwrap_or};
 ghost use Rattle.pb_fields.specs.Places.{block_of, field_of, fields_of};
@@ -10,7 +10,7 @@ use crate::replies::list;
 use pb_fields::{
     FieldKind, Slot, block_name, field_name, field_type, instances, label_count, show, type_name,
 };
-use pb_words::{OutOfMemory, Text, write_u64};
+use pb_words::{OutOfMemory, Text};
 
 /// How many entries the position bus has, and how many bits a word of the bit bus.
 pub(crate) const ENTRIES: u8 = 32;
@@ -37,7 +37,7 @@ pub(crate) fn list_block(text: &mut Text, block: u8) -> Result<(), OutOfMemory>
     text.append(b"!")?;
     text.append(&name[..len])?;
     text.append(b" ")?;
-    append_number(text, instances(block))?;
+    text.append_number(u64::from(instances(block)))?;
     text.append(b"\n")
 }
 
@@ -56,18 +56,10 @@ pub(crate) fn list_field(text: &mut Text, block: u8, field: u8) -> Result<(), Ou
     text.append(b"!")?;
     text.append(field_name(slot))?;
     text.append(b" ")?;
-    append_number(text, field)?;
+    text.append_number(u64::from(field))?;
     text.append(b" ")?;
     text.append(type_name(field_type(slot)))?;
     text.append(b"\n")
-}
-
-fn append_number(text: &mut Text, number: u8) -> Result<(), OutOfMemory>
-    ensures { OnOk result (text.new ≡ text.old ++ decimal number) }
-{
-    let mut digits = [0; 48];
-    let len = write_u64(u64::from(number), &mut digits);
-    text.append(&digits[..len])
 }
 
 /// Adds the lines of the labels of a kind that has labels.

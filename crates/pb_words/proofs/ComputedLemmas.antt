@@ -11,8 +11,10 @@ use Rattle.std.proofs.lemmas.Option.{cond_some}
 use Rattle.pb_words.specs.declared.signed.Sign.{Sign}
 use Rattle.pb_words.specs.declared.signed.Sign.TheVariants as signs
 use Rattle.pb_words.specs.Numbers.{IsDigit, IsUint}
-use Rattle.pb_words.specs.Signed.{Int, WritesInt, BeginsNoSign, sign_text, is_digit, is_uint, sign_cut, int_of}
-use Rattle.pb_words.specs.Decimals.{Decimal, IsDecimal, WritesDecimal, BeginsNoDigit, point_text, places_of, decimal_text, digits_in, behind_digits, places_behind, decimal_cut, is_decimal, decimal_of}
+use Rattle.pb_words.specs.Signed.{Int, WritesInt, sign_text, is_digit, is_uint, sign_cut, int_of}
+use Rattle.pb_words.specs.Cuts.{BeginsNoDigit}
+use Rattle.pb_words.specs.Decimals.{Decimal, IsDecimal, WritesDecimal, point_text, places_of, decimal_text, digits_in, behind_digits, places_behind, decimal_cut, is_decimal, decimal_of}
+use Rattle.pb_words.specs.Parts.{BeginsNoSign}
 use Rattle.pb_words.proofs.SignedLemmas.{begins_no_sign}
 use Rattle.pb_words.proofs.DecimalLemmas.{point_begins_no_digit, unsigned_begins_no_sign}
 

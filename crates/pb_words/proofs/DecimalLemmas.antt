@@ -1,11 +1,14 @@
 -- A text is cut into its sign, its whole digits and its places in one way, and so read in one way.
-use Rattle.std.proofs.Common.{◌≡◌, ℕ, ◌+◌, ◌-◌, ◌≤◌, List, [], ◌∷◌, ◌++◌, length, get_or, take, drop, All, Option, Some, None, sym, ap, subst, ◌∙◌, refl, arith}
+use Rattle.std.proofs.Common.{◌≡◌, ℕ, ◌+◌, ◌-◌, ◌≤◌, List, [], ◌∷◌, ◌++◌, length, get_or, take, drop, All, Option, Some, None, sym, ap, ◌∙◌, refl, arith}
 use Rattle.std.proofs.lemmas.List.{take_all}
-use Rattle.std.proofs.lemmas.List.Elements.{All-head, All-tail}
+use Rattle.std.proofs.lemmas.List.Elements.{All-head}
 use Rattle.pb_words.specs.declared.signed.Sign.{Sign}
 use Rattle.pb_words.specs.Numbers.{IsDigit}
-use Rattle.pb_words.specs.Signed.{BeginsNoSign, sign_text}
-use Rattle.pb_words.specs.Decimals.{Decimal, WritesDecimal, ArePlaces, BeginsNoDigit, point_text, places_of}
+use Rattle.pb_words.specs.Signed.{sign_text}
+use Rattle.pb_words.specs.Cuts.{BeginsNoDigit}
+use Rattle.pb_words.specs.Decimals.{Decimal, WritesDecimal, point_text, places_of}
+use Rattle.pb_words.specs.Parts.{BeginsNoSign, ArePlaces}
+use Rattle.pb_words.proofs.CutLemmas.{digits_cut_once}
 
 first_and_rest : (xs : List ℕ) → 1 ≤ length xs → get_or xs 0 0 ≡ 46 → xs ≡ 46 ∷ take (length xs - 1) (drop 1 xs)
 first_and_rest [] h e = absurd (omega arith)
@@ -22,19 +25,6 @@ places_found rest h e digits nine =
       digits = digits;
       nine = nine;
     }
-
--- digits and what follows them are cut in one way
-pub digits_cut_once : (w w' r r' : List ℕ) → All IsDigit w → All IsDigit w' → BeginsNoDigit r → BeginsNoDigit r' → w ++ r ≡ w' ++ r' → (w ≡ w') × (r ≡ r')
-digits_cut_once [] [] r r' a a' n n' e = (refl, e)
-digits_cut_once [] (b ∷ w') r r' a a' n n' e =
-    absurd (subst BeginsNoDigit e n (All-head IsDigit b w' a'))
-digits_cut_once (b ∷ w) [] r r' a a' n n' e =
-    absurd (subst BeginsNoDigit (sym e) n' (All-head IsDigit b w a))
-digits_cut_once (b ∷ w) (b' ∷ w') r r' a a' n n' e =
-    let head : b ≡ b' = cc in
-    let tail : w ++ r ≡ w' ++ r' = cc in
-    let same = digits_cut_once w w' r r' (All-tail IsDigit b w a) (All-tail IsDigit b' w' a') n n' tail in
-    (ap (λ x. x ∷ w) head ∙ ap (λ ws. b' ∷ ws) same.0, same.1)
 
 pub point_begins_no_digit : (p : Option (List ℕ)) → BeginsNoDigit (point_text p)
 point_begins_no_digit None = tt

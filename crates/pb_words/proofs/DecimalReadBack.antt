@@ -11,7 +11,8 @@ use Rattle.pb_words.specs.Signed.{sign_text, signed}
 use Rattle.pb_words.specs.Decimals.{Decimal, WritesDecimal, ReadsDecimal, point_text, places_of, nine_places, decimal_value, canonical, canonical_size}
 use Rattle.pb_words.proofs.NumberLemmas.{decimal_writes}
 use Rattle.pb_words.proofs.SignedReadBack.{sign_once}
-use Rattle.pb_words.proofs.DecimalLemmas.{digits_cut_once, point_begins_no_digit, unsigned_begins_no_sign, point_once}
+use Rattle.pb_words.proofs.CutLemmas.{digits_cut_once}
+use Rattle.pb_words.proofs.DecimalLemmas.{point_begins_no_digit, unsigned_begins_no_sign, point_once}
 use Rattle.pb_words.proofs.PlaceValues.{point_of}
 
 made : Sign → List ℕ → Option (List ℕ) → Decimal

@@ -2,6 +2,7 @@ pub mod NumberLemmas
 pub mod SignedLemmas
 pub mod PlaceLemmas
 pub mod CanonicalLemmas
+pub mod CutLemmas
 pub mod DecimalLemmas
 pub mod SignedReadBack
 pub mod PlaceValues

@@ -7,7 +7,8 @@ use Rattle.pb_words.specs.declared.numbers.NumFault.TheVariants as faults
 use Rattle.pb_words.specs.declared.signed.Sign.{Sign}
 use Rattle.pb_words.specs.declared.signed.Sign.TheVariants as signs
 use Rattle.pb_words.specs.Numbers.{IsUint, IsDigit, ReadsUint, WritesNumber, value_of}
-use Rattle.pb_words.specs.Signed.{ReadsInt, BeginsNoSign, sign_text, signed, most}
+use Rattle.pb_words.specs.Signed.{ReadsInt, sign_text, signed, most}
+use Rattle.pb_words.specs.Parts.{BeginsNoSign}
 
 -- digits are no sign
 pub begins_no_sign : (ds : List ℕ) → All IsDigit ds → BeginsNoSign ds

@@ -7,7 +7,8 @@ use Rattle.pb_words.specs.declared.numbers.NumFault.{NumFault}
 use Rattle.pb_words.specs.declared.numbers.NumFault.TheVariants as faults
 use Rattle.pb_words.specs.declared.signed.Sign.{Sign}
 use Rattle.pb_words.specs.declared.signed.Sign.TheVariants as signs
-use Rattle.pb_words.specs.Signed.{Int, WritesInt, ReadsInt, BeginsNoSign, sign_text, int_value}
+use Rattle.pb_words.specs.Signed.{Int, WritesInt, ReadsInt, sign_text, int_value}
+use Rattle.pb_words.specs.Parts.{BeginsNoSign}
 use Rattle.pb_words.proofs.NumberLemmas.{decimal_writes}
 use Rattle.pb_words.proofs.SignedLemmas.{begins_no_sign}
 

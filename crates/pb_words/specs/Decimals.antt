@@ -1,6 +1,6 @@
 -- Decimals with at most nine places after the point, between text and value, and the one text of
 -- each that is written.
-use Rattle.std.specs.Prelude.{◌≡◌, ⊤, ℕ, zero, suc, ◌+◌, ◌-◌, ◌*◌, ◌/◌, ◌%◌, ◌^◌, ◌<◌, ◌≤◌, ◌==◌, ◌&&◌, not, nat_eq, nat_le, nat_lt, Bool, if◌then◌else◌, List, [], ◌∷◌, ◌++◌, length, replicate, take, drop, All, ℤ, pos, negsuc, Option, Some, None, Result, Ok, Err, decimal}
+use Rattle.std.specs.Prelude.{◌≡◌, ℕ, zero, suc, ◌+◌, ◌-◌, ◌*◌, ◌/◌, ◌%◌, ◌^◌, ◌<◌, ◌≤◌, ◌==◌, ◌&&◌, not, nat_eq, nat_le, nat_lt, Bool, if◌then◌else◌, List, [], ◌∷◌, ◌++◌, length, replicate, take, drop, All, ℤ, pos, negsuc, Option, Some, None, Result, Ok, Err, decimal}
 use Rattle.std.specs.List.{list_all, position_or_len}
 use Rattle.std.specs.Cmp.Lexicographic.{pointwise}
 use Rattle.pb_words.specs.declared.numbers.NumFault.{NumFault}
@@ -50,25 +50,6 @@ pub record IsDecimal (d : Decimal) : Type 0 where
 pub record WritesDecimal (text : List ℕ) (d : Decimal) : Type 0 where
   pub grammar : IsDecimal d
   pub printed : text ≡ decimal_text d
-
--- the text is a decimal of this sign with these whole digits and these places
-pub record IsCut (text : List ℕ) (sign : Sign) (whole places : List ℕ) : Type 0 where
-  pub after_point : Option (List ℕ)
-  pub same : places_of after_point ≡ places
-  pub writes : WritesDecimal text (record { sign = sign; whole = whole; after_point = after_point })
-
--- what follows the whole digits is nothing, or a point with these places
-pub record ArePlaces (rest places : List ℕ) : Type 0 where
-  pub after_point : Option (List ℕ)
-  pub same : places_of after_point ≡ places
-  pub printed : rest ≡ point_text after_point
-  pub digits : All IsDigit places
-  pub nine : length places ≤ 9
-
--- the text begins with no digit
-abbrev pub BeginsNoDigit : List ℕ → Type 0
-BeginsNoDigit [] = ⊤
-BeginsNoDigit (b ∷ bs) = ¬ (IsDigit b)
 
 -- what reading a decimal of at most that many whole digits answers
 abbrev pub ReadsDecimalUpTo : ℕ → List ℕ → Result Decimal9 NumFault → Type 0

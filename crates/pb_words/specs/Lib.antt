@@ -1,6 +1,8 @@
 pub mod Numbers
 pub mod Refusals
+pub mod Cuts
 pub mod Signed
 pub mod Decimals
+pub mod Parts
 pub mod Hex
-pub mod Steps
+pub mod Refusing

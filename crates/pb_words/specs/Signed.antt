@@ -1,5 +1,5 @@
 -- Whole numbers with an optional sign, between text and value.
-use Rattle.std.specs.Prelude.{◌≡◌, ◌≢◌, ⊤, ℕ, ◌-◌, ◌^◌, ◌==◌, ◌&&◌, nat_le, nat_lt, Bool, List, [], ◌∷◌, ◌++◌, length, ℤ, pos, neg_ℤ, FitsSigned, Option, Some, None, Result, Ok, Err, if◌then◌else◌}
+use Rattle.std.specs.Prelude.{◌≡◌, ℕ, ◌-◌, ◌^◌, ◌==◌, ◌&&◌, nat_le, nat_lt, Bool, List, [], ◌∷◌, ◌++◌, length, ℤ, pos, neg_ℤ, FitsSigned, Option, Some, None, Result, Ok, Err, if◌then◌else◌}
 use Rattle.std.specs.List.{list_all}
 use Rattle.std.specs.Int.{w32}
 use Rattle.pb_words.specs.declared.numbers.NumFault.{NumFault}
@@ -13,11 +13,6 @@ abbrev pub sign_text : Sign → List ℕ
 sign_text signs.Absent = []
 sign_text signs.Plus = 43 ∷ []
 sign_text signs.Minus = 45 ∷ []
-
--- the text begins with no sign
-abbrev pub BeginsNoSign : List ℕ → Type 0
-BeginsNoSign [] = ⊤
-BeginsNoSign (b ∷ bs) = (b ≢ 43) × (b ≢ 45)
 
 -- the number of this size under the sign; `-0` is 0
 abbrev pub signed : Sign → ℕ → ℤ

@@ -3,8 +3,10 @@ ghost use Rattle.std.specs.Fmt.{signed_decimal};
 ghost use Rattle.std.specs.Option.{option_map};
 ghost use Rattle.pb_words.specs.Numbers.{IsDigit, value_of};
 ghost use Rattle.pb_words.specs.Signed.{signed};
-ghost use Rattle.pb_words.specs.Decimals.{ReadsDecimal, ReadsDecimalUpTo, Decimal, WritesDecimal, IsCut, ArePlaces, BeginsNoDigit, nine_places, decimal_value, decimal_of, canonical, canonical_size, fraction, places};
+ghost use Rattle.pb_words.specs.Decimals.{ReadsDecimal, ReadsDecimalUpTo, Decimal, WritesDecimal, nine_places, decimal_value, decimal_of, canonical, canonical_size, fraction, places};
+ghost use Rattle.pb_words.specs.Parts.{IsCut, ArePlaces};
 
+use crate::cuts::cut_digits;
 use crate::lines::Line;
 use crate::numbers::{NumFault, are_digits};
 use crate::signed::{Sign, cut_sign};
@@ -55,20 +57,6 @@ fn cut_decimal(text: &[u8]) -> Option<(Sign, &[u8], &[u8])>
         Some(places) if whole.len() + places.len() > 0 => Some((sign, whole, places)),
         _ => None,
     }
-}
-
-/// Cuts off the digits that the text begins with.
-fn cut_digits(text: &[u8]) -> (&[u8], &[u8])
-    ensures cut { text.now ≡ result.0.now ++ result.1.now }
-    ensures digits { All IsDigit result.0.now }
-    ensures end { BeginsNoDigit result.1.now }
-{
-    for (i, b) in text.iter().enumerate() {
-        if *b < b'0' || *b > b'9' {
-            return text.split_at(i);
-        }
-    }
-    (text, &[])
 }
 
 /// The digits after the point, none where there is no point.

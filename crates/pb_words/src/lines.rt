@@ -3,12 +3,12 @@ ghost use Rattle.std.specs.Prelude.{◌≡◌, ℕ, ◌+◌, ◌<◌, ◌≤◌,
 use crate::numbers::put_front;
 use std::marker::Model;
 
-const ROOM: usize = 48;
+const ROOM: usize = 64;
 
-/// A text of at most 48 bytes that is put together on the stack. A clause sees the bytes.
+/// A text of at most 64 bytes that is put together on the stack. A clause sees the bytes.
 #[derive(Drop)]
 pub struct Line {
-    bytes: [u8; 48],
+    bytes: [u8; 64],
     len: usize,
 }
 
@@ -17,10 +17,11 @@ impl Model for Line {
 
     ghost view = { λ l. take l.len l.bytes };
 
-    ghost invariant = { λ l. l.len ≤ 48 };
+    ghost invariant = { λ l. l.len ≤ 64 };
 }
 
 impl Line {
+    /// An empty line.
     pub fn new() -> Line
         ensures { result ≡ [] }
     {
@@ -30,16 +31,18 @@ impl Line {
         }
     }
 
+    /// Adds a byte at the end.
     pub fn push(&mut self, byte: u8)
-        requires { length self.old < 48 }
+        requires { length self.old < 64 }
         ensures { self.new ≡ self.old ++ byte ∷ [] }
     {
         self.bytes[self.len] = byte;
         self.len += 1;
     }
 
+    /// Adds bytes at the end.
     pub fn append(&mut self, text: &[u8])
-        requires { length self.old + length text.now ≤ 48 }
+        requires { length self.old + length text.now ≤ 64 }
         ensures { self.new ≡ self.old ++ text.now }
     {
         let end = self.len + text.len();

@@ -61,7 +61,6 @@ pub fn put_front(text: &[u8], out: &mut [u8]) -> usize
 /// Reads one or more digits as a number up to the limit.
 #[tactic(auto, using(crate::proofs::NumberLemmas::reading))]
 pub fn read_uint(text: &[u8], limit: u64) -> Result<u64, NumFault>
-    requires { 9 ≤ limit }
     ensures { ReadsUint limit text.now result }
 {
     if !is_uint(text) {
@@ -70,7 +69,7 @@ pub fn read_uint(text: &[u8], limit: u64) -> Result<u64, NumFault>
     let mut n: u64 = 0;
     for b in text {
         let digit = u64::from(*b - b'0');
-        if n > (limit - digit) / 10 {
+        if digit > limit || n > (limit - digit) / 10 {
             return Err(NumFault::TooLarge);
         }
         n = 10 * n + digit;

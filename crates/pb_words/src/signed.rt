@@ -2,7 +2,8 @@ ghost use Rattle.std.specs.Prelude.{◌≡◌, ℕ, ℤ, pos, negsuc, ◌≤◌,
 ghost use Rattle.std.specs.Fmt.{signed_decimal};
 ghost use Rattle.std.specs.Int.{w32};
 ghost use Rattle.std.specs.Option.{option_map};
-ghost use Rattle.pb_words.specs.Signed.{ReadsInt, Int, WritesInt, BeginsNoSign, sign_text, signed, most, int_value, int_of};
+ghost use Rattle.pb_words.specs.Signed.{ReadsInt, Int, WritesInt, sign_text, signed, most, int_value, int_of};
+ghost use Rattle.pb_words.specs.Parts.{BeginsNoSign};
 
 use crate::numbers::{NumFault, put_front, read_uint};
 use itoa::Buffer;

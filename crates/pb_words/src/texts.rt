@@ -1,6 +1,7 @@
-ghost use Rattle.std.specs.Prelude.{◌≡◌, ℕ, List, [], ◌++◌, OnOk, OnErr};
+ghost use Rattle.std.specs.Prelude.{◌≡◌, ℕ, List, [], ◌++◌, decimal, OnOk, OnErr};
 
 use crate::memory::OutOfMemory;
+use crate::numbers::write_u64;
 use std::alloc::Global;
 use std::marker::Model;
 
@@ -35,6 +36,17 @@ impl Text {
         Ok(())
     }
 
+    /// Adds the number at the end, as a decimal without leading zeros.
+    pub fn append_number(&mut self, number: u64) -> Result<(), OutOfMemory>
+        ensures ok { OnOk result (self.new ≡ self.old ++ decimal number) }
+        ensures err { OnErr result (self.new ≡ self.old) }
+    {
+        let mut digits = [0; 48];
+        let len = write_u64(number, &mut digits);
+        self.append(&digits[..len])
+    }
+
+    /// The bytes of the text.
     pub fn bytes(&self) -> &[u8]
         ensures { result.now ≡ self.now }
     {
