@@ -9,4 +9,6 @@ mod lut;
 #[cfg(test)]
 mod ports;
 #[cfg(test)]
+mod tables;
+#[cfg(test)]
 mod words;
