@@ -1,5 +1,5 @@
-//! Tests of the public calls of the crates that read and print: what no script
-//! reaches, and each call once on its happy path.
+//! Tests of the public calls of the crates that read and print, and of tables:
+//! what no script reaches, and each call once on its happy path.
 #![tactic(auto)]
 
 #[cfg(test)]
@@ -14,5 +14,7 @@ mod lut;
 mod ports;
 #[cfg(test)]
 mod replies;
+#[cfg(test)]
+mod tables;
 #[cfg(test)]
 mod words;
