@@ -8,7 +8,7 @@ use Rattle.pb_buses.specs.declared.Outputs.{Outputs}
 use Rattle.pb_buses.specs.declared.Emit.TheVariants as emits
 use Rattle.pb_buses.specs.Edges.{edge_of, has_edge}
 use Rattle.pb_buses.specs.Rules.{Rules}
-use Rattle.pb_logic.specs.Bits.{bit_input, only_bits}
+use Rattle.pb_logic.specs.Bits.{bit_input, one_bit}
 use Rattle.pb_logic.specs.declared.srgates.Force.{Force}
 use Rattle.pb_logic.specs.declared.srgates.Force.TheVariants as forces
 use Rattle.pb_logic.specs.declared.srgates.WhenDisabled.{WhenDisabled}
@@ -87,7 +87,7 @@ opening =
 
 -- what it shows: OUT
 abbrev pub shown : SrgateState → Outputs
-shown gate = only_bits (gate.registers.out ∷ [])
+shown gate = one_bit gate.registers.out
 
 -- the three settings take the number of a label, and the two actions take 0
 abbrev pub IsSettable : SrgateState → ℕ → ℕ → Type 0
