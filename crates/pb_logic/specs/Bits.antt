@@ -1,5 +1,5 @@
 -- Bit inputs and bit outputs of blocks.
-use Rattle.std.specs.Prelude.{ℕ, ◌+◌, ◌*◌, pos, Bool, false, List, [], ◌∷◌, slice_index_or, if◌then◌else◌}
+use Rattle.std.specs.Prelude.{ℕ, ◌+◌, ◌*◌, pos, Bool, false, slice_index_or, if◌then◌else◌}
 use Rattle.pb_buses.specs.declared.Inputs.{Inputs}
 use Rattle.pb_buses.specs.declared.Outputs.{Outputs}
 

@@ -1,5 +1,5 @@
 -- CLOCK: for as long as it is enabled, a pulse in every period.
-use Rattle.std.specs.Prelude.{ℕ, ◌+◌, ◌/◌, ◌≡◌, ◌<◌, ◌^◌, ◌⊎◌, max, ◌==◌, nat_lt, nat_le, Bool, false, [], ◌∷◌, if◌then◌else◌}
+use Rattle.std.specs.Prelude.{ℕ, ◌+◌, ◌/◌, ◌≡◌, ◌<◌, ◌^◌, ◌⊎◌, max, ◌==◌, nat_lt, nat_le, Bool, false, if◌then◌else◌}
 use Rattle.pb_names.specs.declared.clock.TheConstants as names
 use Rattle.pb_buses.specs.declared.Inputs.{Inputs}
 use Rattle.pb_buses.specs.declared.Outputs.{Outputs}

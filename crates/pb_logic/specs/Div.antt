@@ -1,5 +1,5 @@
 -- DIV: of every so many pulses, the last goes to one output and the others to the other.
-use Rattle.std.specs.Prelude.{ℕ, ◌+◌, ◌-◌, ◌≡◌, ◌<◌, ◌^◌, ◌⊎◌, ◌==◌, nat_le, Bool, true, false, [], ◌∷◌, if◌then◌else◌}
+use Rattle.std.specs.Prelude.{ℕ, ◌+◌, ◌-◌, ◌≡◌, ◌<◌, ◌^◌, ◌⊎◌, ◌==◌, nat_le, Bool, true, false, if◌then◌else◌}
 use Rattle.pb_names.specs.declared.div.TheConstants as names
 use Rattle.pb_names.specs.declared.first_pulse.TheConstants as labels
 use Rattle.pb_buses.specs.declared.Inputs.{Inputs}

@@ -1,6 +1,5 @@
 -- LUT: a logic function of five inputs, given as 32 bits. The output follows the inputs one tick later.
-use Rattle.std.specs.Prelude.{ℕ, ◌≡◌, ◌<◌, ◌^◌, ◌==◌, Bool, false, [], ◌∷◌, if◌then◌else◌}
-use Rattle.std.specs.Int.{bit_at}
+use Rattle.std.specs.Prelude.{ℕ, ◌≡◌, ◌<◌, ◌^◌, ◌==◌, Bool, false, if◌then◌else◌}
 use Rattle.pb_lut.specs.Expressions.{Inputs as Levels}
 use Rattle.pb_lut.specs.Functions.{table_output}
 use Rattle.pb_names.specs.declared.lut.TheConstants as names

@@ -1,5 +1,5 @@
 -- SRGATE: an output that is set and reset by edges of two inputs, or forced by a command.
-use Rattle.std.specs.Prelude.{ℕ, ◌≡◌, ◌<◌, ◌⊎◌, ◌==◌, Bool, true, false, [], ◌∷◌, Option, Some, None, if◌then◌else◌}
+use Rattle.std.specs.Prelude.{ℕ, ◌≡◌, ◌<◌, ◌⊎◌, ◌==◌, Bool, true, false, Option, Some, None, if◌then◌else◌}
 use Rattle.pb_names.specs.declared.srgate.TheConstants as names
 use Rattle.pb_names.specs.declared.when_disabled.TheConstants as labels
 use Rattle.pb_buses.specs.declared.Edge.TheVariants as edges
