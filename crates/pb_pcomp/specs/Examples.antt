@@ -1,5 +1,5 @@
 -- The blocks and inputs of the worked examples.
-use Rattle.std.specs.Prelude.{ℕ, ℤ, pos, negsuc, Bool, true, false, List, [], ◌∷◌, replicate}
+use Rattle.std.specs.Prelude.{ℤ, pos, negsuc, Bool, true, false, List, [], ◌∷◌, replicate}
 use Rattle.pb_buses.specs.declared.Inputs.{Inputs}
 use Rattle.pb_pcomp.specs.Pcomp.{Compare, opening, rules}
 use Rattle.pb_pcomp.specs.declared.settings.Direction.TheVariants as directions

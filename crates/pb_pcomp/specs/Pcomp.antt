@@ -1,5 +1,5 @@
 -- PCOMP: pulses at positions. An output rises and falls as the position of an encoder goes by.
-use Rattle.std.specs.Prelude.{ℕ, ◌+◌, ◌-◌, ◌*◌, ◌≡◌, ◌<◌, ◌^◌, ◌⊎◌, ⊤, ℤ, pos, ◌+ℤ◌, ◌-ℤ◌, neg_ℤ, int_lt, int_le, unsigned_abs, FitsSigned, ◌==◌, nat_lt, nat_le, Bool, true, false, slice_index_or, if◌then◌else◌}
+use Rattle.std.specs.Prelude.{ℕ, ◌+◌, ◌*◌, ◌≡◌, ◌<◌, ◌^◌, ◌⊎◌, ⊤, ℤ, pos, ◌+ℤ◌, ◌-ℤ◌, neg_ℤ, int_lt, int_le, unsigned_abs, FitsSigned, ◌==◌, nat_lt, nat_le, Bool, true, false, slice_index_or, if◌then◌else◌}
 use Rattle.std.specs.Int.{w32, w64, cast_signed}
 use Rattle.pb_names.specs.declared.pcomp.TheConstants as names
 use Rattle.pb_names.specs.declared.pcomp_state.TheConstants as state_labels
