@@ -1,5 +1,5 @@
--- Bits as inputs, as digits, and as the outputs that a block shows.
-use Rattle.std.specs.Prelude.{ℕ, ◌+◌, ◌*◌, pos, Bool, false, List, [], ◌∷◌, slice_index_or, if◌then◌else◌}
+-- Bit inputs and bit outputs of blocks.
+use Rattle.std.specs.Prelude.{ℕ, ◌+◌, ◌*◌, pos, Bool, false, slice_index_or, if◌then◌else◌}
 use Rattle.pb_buses.specs.declared.Inputs.{Inputs}
 use Rattle.pb_buses.specs.declared.Outputs.{Outputs}
 
@@ -11,11 +11,10 @@ bit_input place inputs = slice_index_or inputs.bits place false
 abbrev pub digit : Bool → ℕ
 digit bit = if bit then 1 else 0
 
--- the number whose bit 0 is the first of these, bit 1 the second, and so on
-abbrev pub packed : List Bool → ℕ
-packed [] = 0
-packed (bit ∷ bits) = digit bit + 2 * packed bits
+-- what a block shows that has one bit output
+abbrev pub one_bit : Bool → Outputs
+one_bit out = record { bits = digit out; position = pos 0 }
 
--- what is shown by a block with these bit outputs and without a position output
-abbrev pub only_bits : List Bool → Outputs
-only_bits outputs = record { bits = packed outputs; position = pos 0 }
+-- what a block shows that has two bit outputs
+abbrev pub two_bits : Bool → Bool → Outputs
+two_bits first second = record { bits = digit first + 2 * digit second; position = pos 0 }

@@ -1,11 +1,11 @@
 -- CLOCK: for as long as it is enabled, a pulse in every period.
-use Rattle.std.specs.Prelude.{ℕ, ◌+◌, ◌/◌, ◌≡◌, ◌<◌, ◌^◌, ◌⊎◌, max, ◌==◌, nat_lt, nat_le, Bool, false, [], ◌∷◌, if◌then◌else◌}
+use Rattle.std.specs.Prelude.{ℕ, ◌+◌, ◌/◌, ◌≡◌, ◌<◌, ◌^◌, ◌⊎◌, max, ◌==◌, nat_lt, nat_le, Bool, false, if◌then◌else◌}
 use Rattle.pb_names.specs.declared.clock.TheConstants as names
 use Rattle.pb_buses.specs.declared.Inputs.{Inputs}
 use Rattle.pb_buses.specs.declared.Outputs.{Outputs}
 use Rattle.pb_buses.specs.declared.Emit.TheVariants as emits
 use Rattle.pb_buses.specs.Rules.{Rules}
-use Rattle.pb_logic.specs.Bits.{bit_input, only_bits}
+use Rattle.pb_logic.specs.Bits.{bit_input, one_bit}
 use Rattle.pb_logic.specs.declared.clocks.ClockSettings.{ClockSettings}
 use Rattle.pb_logic.specs.declared.clocks.ClockRegisters.{ClockRegisters}
 
@@ -61,7 +61,7 @@ opening = record { settings = record { period = 0; width = 0 }; registers = stop
 
 -- what it shows: OUT
 abbrev pub shown : ClockState → Outputs
-shown clock = only_bits (clock.registers.out ∷ [])
+shown clock = one_bit clock.registers.out
 
 -- PERIOD and WIDTH take up to 48 bits of ticks
 abbrev pub IsSettable : ClockState → ℕ → ℕ → Type 0

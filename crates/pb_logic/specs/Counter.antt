@@ -1,5 +1,5 @@
 -- COUNTER: counts pulses up or down in a range of positions, and marks where it went over an end.
-use Rattle.std.specs.Prelude.{ℕ, ◌≡◌, ◌<◌, ◌^◌, ◌⊎◌, ℤ, pos, negsuc, ◌+ℤ◌, ◌-ℤ◌, int_lt, int_le, FitsSigned, ◌==◌, Bool, true, false, not, ◌&&◌, ◌||◌, [], ◌∷◌, if◌then◌else◌}
+use Rattle.std.specs.Prelude.{ℕ, ◌≡◌, ◌<◌, ◌^◌, ◌⊎◌, ℤ, pos, negsuc, ◌+ℤ◌, ◌-ℤ◌, int_lt, int_le, FitsSigned, ◌==◌, Bool, true, false, not, ◌&&◌, ◌||◌, if◌then◌else◌}
 use Rattle.std.specs.Ordering.{int_eq}
 use Rattle.std.specs.Int.{w32, w64, cast_signed, int_rem_euclid}
 use Rattle.pb_names.specs.declared.counter.TheConstants as names
@@ -8,7 +8,7 @@ use Rattle.pb_buses.specs.declared.Outputs.{Outputs}
 use Rattle.pb_buses.specs.declared.Emit.TheVariants as emits
 use Rattle.pb_buses.specs.Edges.{rises}
 use Rattle.pb_buses.specs.Rules.{Rules}
-use Rattle.pb_logic.specs.Bits.{bit_input, packed}
+use Rattle.pb_logic.specs.Bits.{bit_input, digit}
 use Rattle.pb_logic.specs.declared.counters.CounterSettings.{CounterSettings}
 use Rattle.pb_logic.specs.declared.counters.CounterRegisters.{CounterRegisters}
 
@@ -113,7 +113,7 @@ opening =
 -- what it shows: CARRY, and OUT
 abbrev pub shown : CounterState → Outputs
 shown counter =
-    record { bits = packed (counter.registers.carry ∷ []); position = counter.registers.out }
+    record { bits = digit counter.registers.carry; position = counter.registers.out }
 
 -- START, MIN and MAX take a signed number of 32 bits, extended to 64, and STEP takes 32 bits
 abbrev pub IsSettable : CounterState → ℕ → ℕ → Type 0

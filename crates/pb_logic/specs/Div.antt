@@ -1,5 +1,5 @@
 -- DIV: of every so many pulses, the last goes to one output and the others to the other.
-use Rattle.std.specs.Prelude.{ℕ, ◌+◌, ◌-◌, ◌≡◌, ◌<◌, ◌^◌, ◌⊎◌, ◌==◌, nat_le, Bool, true, false, [], ◌∷◌, if◌then◌else◌}
+use Rattle.std.specs.Prelude.{ℕ, ◌+◌, ◌-◌, ◌≡◌, ◌<◌, ◌^◌, ◌⊎◌, ◌==◌, nat_le, Bool, true, false, if◌then◌else◌}
 use Rattle.pb_names.specs.declared.div.TheConstants as names
 use Rattle.pb_names.specs.declared.first_pulse.TheConstants as labels
 use Rattle.pb_buses.specs.declared.Inputs.{Inputs}
@@ -7,7 +7,7 @@ use Rattle.pb_buses.specs.declared.Outputs.{Outputs}
 use Rattle.pb_buses.specs.declared.Emit.TheVariants as emits
 use Rattle.pb_buses.specs.Edges.{rises}
 use Rattle.pb_buses.specs.Rules.{Rules}
-use Rattle.pb_logic.specs.Bits.{bit_input, only_bits}
+use Rattle.pb_logic.specs.Bits.{bit_input, two_bits}
 use Rattle.pb_logic.specs.declared.divs.FirstPulse.{FirstPulse}
 use Rattle.pb_logic.specs.declared.divs.FirstPulse.TheVariants as firsts
 use Rattle.pb_logic.specs.declared.divs.DivSettings.{DivSettings}
@@ -97,7 +97,7 @@ opening =
 
 -- what it shows: OUTD, OUTN
 abbrev pub shown : DivState → Outputs
-shown div = only_bits (div.registers.outd ∷ div.registers.outn ∷ [])
+shown div = two_bits div.registers.outd div.registers.outn
 
 -- DIVISOR takes 32 bits, and FIRST_PULSE the number of a label
 abbrev pub IsSettable : DivState → ℕ → ℕ → Type 0

@@ -4,7 +4,7 @@ use Rattle.pb_names.specs.declared.srgate.TheConstants as names
 use Rattle.pb_buses.specs.declared.Inputs.{Inputs}
 use Rattle.pb_buses.specs.declared.Outputs.{Outputs}
 use Rattle.pb_buses.specs.Rules.{Rules, after}
-use Rattle.pb_logic.specs.Bits.{packed, only_bits}
+use Rattle.pb_logic.specs.Bits.{digit}
 use Rattle.pb_logic.specs.Clock as clock_rules
 use Rattle.pb_logic.specs.Counter as counter_rules
 use Rattle.pb_logic.specs.Div as div_rules
@@ -42,6 +42,10 @@ set = seen true true false
 abbrev pub both : Inputs
 both = seen true true true
 
+-- the second input is 1 while ENABLE is 0
+abbrev pub disabled_set : Inputs
+disabled_set = seen false true false
+
 -- a counter from 0 to 2 that starts at 1 and counts by 2
 abbrev pub counter : counter_rules.CounterState
 counter =
@@ -55,11 +59,7 @@ counter_shows inputs = counter_rules.shown (after_all counter_rules.rules inputs
 
 -- this carry and this position
 abbrev pub position : Bool → ℤ → Outputs
-position carry out = record { bits = packed (carry ∷ []); position = out }
-
--- these bit outputs
-abbrev pub bits : List Bool → Outputs
-bits outputs = only_bits outputs
+position carry out = record { bits = digit carry; position = out }
 
 -- a divider by 2
 abbrev pub div : div_rules.DivState

@@ -1,13 +1,13 @@
 -- LUT: a logic function of five inputs, given as 32 bits. The output follows the inputs one tick later.
-use Rattle.std.specs.Prelude.{ℕ, ◌≡◌, ◌<◌, ◌^◌, ◌==◌, Bool, false, [], ◌∷◌, if◌then◌else◌}
-use Rattle.std.specs.Int.{bit_at}
-use Rattle.pb_lut.specs.Expressions.{Inputs as Levels, place}
+use Rattle.std.specs.Prelude.{ℕ, ◌≡◌, ◌<◌, ◌^◌, ◌==◌, Bool, false, if◌then◌else◌}
+use Rattle.pb_lut.specs.Expressions.{Inputs as Levels}
+use Rattle.pb_lut.specs.Functions.{table_output}
 use Rattle.pb_names.specs.declared.lut.TheConstants as names
 use Rattle.pb_buses.specs.declared.Inputs.{Inputs}
 use Rattle.pb_buses.specs.declared.Outputs.{Outputs}
 use Rattle.pb_buses.specs.declared.Emit.TheVariants as emits
 use Rattle.pb_buses.specs.Rules.{Rules}
-use Rattle.pb_logic.specs.Bits.{bit_input, only_bits}
+use Rattle.pb_logic.specs.Bits.{bit_input, one_bit}
 use Rattle.pb_logic.specs.declared.luts.LutSettings.{LutSettings}
 use Rattle.pb_logic.specs.declared.luts.LutRegisters.{LutRegisters}
 
@@ -29,7 +29,7 @@ levels inputs =
 
 -- the output one tick later: bit 16A + 8B + 4C + 2D + E of the function
 abbrev pub output_after : LutSettings → Inputs → Bool
-output_after settings inputs = bit_at settings.function (place (levels inputs)) == 1
+output_after settings inputs = table_output settings.function (levels inputs)
 
 -- one tick
 abbrev pub next : LutState → Inputs → ℕ → LutState
@@ -45,7 +45,7 @@ opening = record { settings = record { function = 0 }; registers = record { out 
 
 -- what it shows: OUT
 abbrev pub shown : LutState → Outputs
-shown lut = only_bits (lut.registers.out ∷ [])
+shown lut = one_bit lut.registers.out
 
 -- FUNC takes 32 bits
 abbrev pub IsSettable : LutState → ℕ → ℕ → Type 0

@@ -1,5 +1,5 @@
 -- SRGATE: an output that is set and reset by edges of two inputs, or forced by a command.
-use Rattle.std.specs.Prelude.{ℕ, ◌≡◌, ◌<◌, ◌⊎◌, ◌==◌, Bool, true, false, [], ◌∷◌, Option, Some, None, if◌then◌else◌}
+use Rattle.std.specs.Prelude.{ℕ, ◌≡◌, ◌<◌, ◌⊎◌, ◌==◌, Bool, true, false, Option, Some, None, if◌then◌else◌}
 use Rattle.pb_names.specs.declared.srgate.TheConstants as names
 use Rattle.pb_names.specs.declared.when_disabled.TheConstants as labels
 use Rattle.pb_buses.specs.declared.Edge.TheVariants as edges
@@ -8,7 +8,7 @@ use Rattle.pb_buses.specs.declared.Outputs.{Outputs}
 use Rattle.pb_buses.specs.declared.Emit.TheVariants as emits
 use Rattle.pb_buses.specs.Edges.{edge_of, has_edge}
 use Rattle.pb_buses.specs.Rules.{Rules}
-use Rattle.pb_logic.specs.Bits.{bit_input, only_bits}
+use Rattle.pb_logic.specs.Bits.{bit_input, one_bit}
 use Rattle.pb_logic.specs.declared.srgates.Force.{Force}
 use Rattle.pb_logic.specs.declared.srgates.Force.TheVariants as forces
 use Rattle.pb_logic.specs.declared.srgates.WhenDisabled.{WhenDisabled}
@@ -87,7 +87,7 @@ opening =
 
 -- what it shows: OUT
 abbrev pub shown : SrgateState → Outputs
-shown gate = only_bits (gate.registers.out ∷ [])
+shown gate = one_bit gate.registers.out
 
 -- the three settings take the number of a label, and the two actions take 0
 abbrev pub IsSettable : SrgateState → ℕ → ℕ → Type 0
