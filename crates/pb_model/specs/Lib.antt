@@ -1,1 +1,10 @@
 pub mod Changes
+pub mod Examples
+pub mod Kept
+pub mod Lending
+pub mod Machines
+pub mod Outputs
+pub mod Resting
+pub mod Settings
+pub mod Tick
+pub mod Units

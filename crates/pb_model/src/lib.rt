@@ -1,7 +1,23 @@
-//! The changes that the outside makes to the box. Which of them are allowed is said in
-//! `specs/Changes.antt`.
+//! The whole box: its blocks in the order of the catalogue, one tick of all of them, and the changes that
+//! the outside makes. `specs/Tick.antt` says what a tick is, `specs/Settings.antt` what a change does.
 #![tactic(auto)]
 
+mod blocks;
+mod boxes;
 mod changes;
+mod laws;
+mod places;
+mod rests;
+mod settings;
+mod shows;
+mod ticks;
+mod units;
 
+pub use blocks::Block;
+pub use boxes::BoxState;
 pub use changes::{Change, is_taken_role};
+pub use laws::{boxes_by_example, changes_and_puts_keep_agreement, outputs_stand_at_their_entries};
+pub use places::{MACHINES, machine};
+pub use rests::Resting;
+pub use ticks::tick;
+pub use units::Unit;

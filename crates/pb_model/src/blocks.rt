@@ -1,0 +1,100 @@
+ghost use Rattle.std.specs.Prelude.{◌≡◌, ◌+◌, ◌^◌, ◌<◌, ◌≤◌, map};
+ghost use Rattle.pb_buses.specs.Buses.{position};
+ghost use Rattle.pb_model.specs.Tick.{inputs_of, seen_on, input_after, block_after, emitted_by, sees_all};
+
+use crate::units::Unit;
+use pb_buses::{Buses, Emit, Inputs, Machine, Mux};
+use pb_names::pcap;
+use pb_words::Steps;
+use std::sync::ledger::Ledger;
+
+/// A unit with what its inputs select.
+#[derive(Drop)]
+pub struct Block {
+    pub unit: Unit,
+    /// The bit inputs, in the order of the block's bit_mux fields in the catalogue. Those beyond its own
+    /// select ZERO.
+    pub bits: [Mux; 5],
+    /// What the position inputs select, in the order of the block's pos_mux fields in the catalogue: 0 to 31
+    /// are the entries of the position bus, 32 is ZERO. Those beyond its own select ZERO.
+    pub positions: [u8; 3],
+}
+
+impl Block {
+    /// What the block sees at the tick of these buses.
+    pub fn inputs(&self, buses: &Buses) -> Inputs
+        ensures { result ≡ inputs_of buses.now.bus self.now }
+    {
+        let bits = seen(&self.bits, buses);
+        let positions = self.selected_positions(buses);
+        if self.sees_all() {
+            Inputs {
+                bits,
+                positions,
+                words: buses.words(),
+                bus: buses.bus().positions,
+            }
+        } else {
+            Inputs {
+                bits,
+                positions,
+                words: [0; 4],
+                bus: [0; 32],
+            }
+        }
+    }
+
+    /// One tick: the block sees the buses, its delay lines take what its inputs select, and its unit steps.
+    /// The tick is that of the buses.
+    pub fn step<L: Ledger>(&mut self, buses: &Buses, tick: u64, steps: &mut Steps<L>) -> Emit
+        requires { tick < 2 ^ 62 }
+        ensures next { self.new ≡ block_after buses.now.bus tick self.old }
+        ensures emits { result ≡ emitted_by buses.now.bus tick self.old }
+        ensures counts { steps.new ≡ steps.old + 1 }
+    {
+        let inputs = self.inputs(buses);
+        self.push(buses);
+        self.unit.step(&inputs, tick, steps)
+    }
+
+    /// The delay line of each bit input takes what the input selects.
+    pub fn push(&mut self, buses: &Buses)
+        ensures unit { self.new.unit ≡ self.old.unit }
+        ensures bits { self.new.bits ≡ map (input_after buses.now.bus) self.old.bits }
+        ensures positions { self.new.positions ≡ self.old.positions }
+    {
+        for mux in self.bits.iter_mut() {
+            mux.shift(buses.selected(mux.select()), 1);
+        }
+    }
+
+    /// PCAP alone sees the whole of both buses.
+    fn sees_all(&self) -> bool
+        ensures { result ≡ sees_all self.now }
+    {
+        self.unit.place() == pcap::BLOCK
+    }
+
+    /// What its position inputs select.
+    fn selected_positions(&self, buses: &Buses) -> [i32; 3]
+        ensures { result ≡ map (position buses.now.bus) self.now.positions }
+    {
+        let mut positions = [0; 3];
+        for i in 0..3 {
+            positions[i] = buses.selected_position(self.positions[i]);
+        }
+        positions
+    }
+}
+
+/// What a block sees of its bit inputs.
+fn seen(inputs: &[Mux; 5], buses: &Buses) -> [bool; 5]
+    ensures { result ≡ map (seen_on buses.now.bus) inputs.now }
+{
+    let mut bits = [false; 5];
+    for i in 0..5 {
+        let mux = &inputs[i];
+        bits[i] = mux.seen(buses.selected(mux.select()));
+    }
+    bits
+}
