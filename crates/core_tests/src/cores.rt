@@ -1,7 +1,8 @@
 ghost use Rattle.std.specs.Prelude.{◌≡◌, ◌<◌, IfOk};
 ghost use Rattle.pb_core.specs.Answer.{CanHappen};
 
-use pb_core::{Answer, Core, Event, Stimulus};
+use pb_core::{Answer, Core, Event};
+use pb_stim::Stimulus;
 use pb_words::{Steps, Text};
 use std::alloc::Global;
 use std::marker::Brand;

@@ -1,4 +1,5 @@
 pub mod LineLemmas
+pub mod SignedTexts
 pub mod Unique
 pub mod ReadSoFar
 pub mod PlayedSoFar

@@ -1,13 +1,16 @@
 -- What has been written of a script's output, step by step.
 use Rattle.std.proofs.Common.{◌≡◌, ◌≢◌, ℕ, ◌+◌, ◌<◌, ◌≤◌, List, [], ◌∷◌, ◌++◌, length, get_or, drop, Option, Some, None, refl, sym, ap, subst, inl, inr, ◌∙◌, arith}
 use Rattle.std.specs.List.{flat_map}
-use Rattle.std.proofs.lemmas.List.{append_assoc, at_drop_more}
+use Rattle.std.proofs.lemmas.List.{append_assoc, append-nil, at_drop_more, drop_all}
 use Rattle.pb_ports.specs.Ports.{Adds, Rose}
 use Rattle.pb_core.specs.declared.Event.{Event}
+use Rattle.pb_core.specs.declared.Event.TheVariants as events
 use Rattle.pb_core.specs.Answer.{CoreState, after, after_all}
+use Rattle.pb_core.specs.Kept.{KeptCore, Agrees}
 use Rattle.panda_sim.specs.declared.statuses.Played.{Played}
 use Rattle.panda_sim.specs.declared.statuses.Played.TheVariants as ends
 use Rattle.panda_sim.specs.Output.{written, sections}
+use Rattle.panda_sim.specs.KeptScript.{text_events}
 use Rattle.panda_sim.specs.Run.{AddsFront}
 use Rattle.panda_sim.specs.Plays.{Plays}
 
@@ -78,3 +81,64 @@ played_step f all core next steps i d old mid now lt p h e =
 pub played_break : {S : Type 0} (f : S → List Event) (all : List ℕ) (core : CoreState) (steps : List S) (i : ℕ) (d : S) (old mid now : Option (List ℕ)) (end : Played) → end ≢ ends.Ok → i < length steps → IsPlayed all (sections core (flat_map f (drop i steps))) old mid → Plays (sections core (f (get_or steps i d))) end mid now → Plays all end old now
 played_break f all core steps i d old mid now end other lt p h =
     played_end end all _ _ old mid now other (subst (λ rest. IsPlayed all rest old mid) (to_come_more f core steps i d lt) p) h
+
+-- Of the output of all steps from this state on, that of the steps before this place is written, and the core
+-- is what is kept of the state that they lead to.
+pub record Stands {S : Type 0} (f : S → List Event) (state : CoreState) (core : KeptCore) (steps : List S) (i : ℕ) (old now : Option (List ℕ)) : Type 0 where
+  pub reached : CoreState
+  pub agrees : Agrees core reached
+  pub played : IsPlayed (sections state (flat_map f steps)) (sections reached (flat_map f (drop i steps))) old now
+
+adds_none : (old : Option (List ℕ)) → Adds old [] old
+adds_none None = refl
+adds_none (Some held) = ap Some (sym (append-nil held))
+
+none_gone : {S : Type 0} (steps : List S) → drop 0 steps ≡ steps
+none_gone [] = refl
+none_gone (step ∷ steps) = refl
+
+pub stands_first : {S : Type 0} (f : S → List Event) (state : CoreState) (core : KeptCore) (steps : List S) (old : Option (List ℕ)) → Agrees core state → Stands f state core steps 0 old old
+stands_first f state core steps old h =
+    record {
+      reached = state;
+      agrees = h;
+      played = record {
+        done = [];
+        added = adds_none old;
+        split = ap (λ all. sections state (flat_map f all)) (sym (none_gone steps));
+      };
+    }
+
+-- one step more
+pub stands_more : {S : Type 0} (f : S → List Event) (state : CoreState) (core next : KeptCore) (steps : List S) (i : ℕ) (d : S) (old mid now : Option (List ℕ)) → i < length steps → Stands f state core steps i old mid
+    → ((s : CoreState) → Agrees core s → Adds mid (sections s (f (get_or steps i d))) now)
+    → ((s : CoreState) → Agrees core s → Agrees next (after_all s (f (get_or steps i d))))
+    → Stands f state next steps (i + 1) old now
+stands_more f state core next steps i d old mid now lt p plays leads =
+    record {
+      reached = after_all p.reached (f (get_or steps i d));
+      agrees = leads p.reached p.agrees;
+      played =
+          played_step f (sections state (flat_map f steps)) p.reached (after_all p.reached (f (get_or steps i d))) steps i d old mid now lt p.played
+          (plays p.reached p.agrees) refl;
+    }
+
+-- a step that breaks off
+pub stands_break : {S : Type 0} (f : S → List Event) (state : CoreState) (core : KeptCore) (steps : List S) (i : ℕ) (d : S) (old mid now : Option (List ℕ)) (end : Played) → end ≢ ends.Ok → i < length steps → Stands f state core steps i old mid
+    → ((s : CoreState) → Agrees core s → Plays (sections s (f (get_or steps i d))) end mid now)
+    → Plays (sections state (flat_map f steps)) end old now
+stands_break f state core steps i d old mid now end other lt p plays =
+    played_break f (sections state (flat_map f steps)) p.reached steps i d old mid now end other lt p.played (plays p.reached p.agrees)
+
+-- all steps
+pub stands_all : {S : Type 0} (f : S → List Event) (state : CoreState) (core : KeptCore) (steps : List S) (i : ℕ) (old now : Option (List ℕ)) → length steps ≤ i → Stands f state core steps i old now → Adds old (sections state (flat_map f steps)) now
+stands_all f state core steps i old now none p =
+    let rest : sections p.reached (flat_map f (drop i steps)) ≡ [] = ap (λ all. sections p.reached (flat_map f all)) (drop_all i steps none) in
+    let all : sections state (flat_map f steps) ≡ p.played.done =
+    p.played.split ∙ (ap (λ x. p.played.done ++ x) rest ∙ append-nil p.played.done) in
+    subst (λ bytes. Adds old bytes now) (sym all) p.played.added
+
+-- a step with a line
+pub played_line : (state : CoreState) (tick : ℕ) (text : List ℕ) (end : Played) (old now : Option (List ℕ)) → Plays (written (after state (events.Advance tick)) (events.Line 1 (text ++ 10 ∷ []))) end old now → Plays (sections state (text_events tick (Some text))) end old now
+played_line state tick text end old now h =
+    subst (λ bytes. Plays bytes end old now) (sym (append-nil (written (after state (events.Advance tick)) (events.Line 1 (text ++ 10 ∷ []))))) h

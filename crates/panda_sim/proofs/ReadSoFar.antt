@@ -3,8 +3,8 @@ use Rattle.std.proofs.Common.{◌≡◌, ◌≢◌, ℕ, ◌≤◌, Bool, true, 
 use Rattle.std.specs.List.{flat_map}
 use Rattle.std.specs.Prelude.{Option, Some, None, IfNone}
 use Rattle.std.proofs.lemmas.List.{append-nil, append_assoc, length-append}
-use Rattle.pb_core.specs.declared.Row.{Row}
-use Rattle.pb_core.specs.Stimulus.{last_tick}
+use Rattle.pb_stim.specs.declared.Row.{Row}
+use Rattle.pb_stim.specs.Stimulus.{last_tick}
 use Rattle.pb_core.specs.declared.Event.{Event}
 use Rattle.pb_grammar.specs.Grammar.{IsText}
 use Rattle.panda_sim.specs.Script.{Line, Deed, Skipped, Timed, Level, Command, End, IsLine, WritesLines, Ordered, IsScript, is_end}

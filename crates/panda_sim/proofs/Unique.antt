@@ -1,13 +1,13 @@
 -- One text has at most one list of lines.
-use Rattle.std.proofs.Common.{◌≡◌, ◌≢◌, ℕ, ◌+◌, Bool, true, false, List, [], ◌∷◌, ◌++◌, length, get_or, drop, ℤ, pos, neg_ℤ, refl, sym, ap, subst, inl, inr, ◌∙◌, arith}
+use Rattle.std.proofs.Common.{◌≡◌, ◌≢◌, ℕ, ◌+◌, List, [], ◌∷◌, ◌++◌, length, get_or, drop, refl, sym, ap, subst, inl, inr, ◌∙◌, arith}
 use Rattle.std.proofs.lemmas.List.Elements.{All-head, All-tail}
 use Rattle.std.proofs.lemmas.List.{get_or_at, length-append}
-use Rattle.std.specs.Prelude.{if◌then◌else◌}
-use Rattle.pb_words.specs.Numbers.{IsDigit, IsUint, WritesNumber}
+use Rattle.pb_words.specs.Numbers.{IsDigit, IsUint}
 use Rattle.pb_grammar.specs.Grammar.{IsText}
 use Rattle.panda_sim.specs.Script.{Line, Deed, Skipped, Timed, Level, Command, End, Says, Follows, IsLine, WritesSigned, WritesLines}
 use Rattle.pb_words.proofs.CutLemmas.{digits_cut_once}
-use Rattle.panda_sim.proofs.LineLemmas.{says_no_digit, follows_no_digit, timed_parts}
+use Rattle.panda_sim.proofs.LineLemmas.{says_no_digit, row_sign, follows_no_digit, timed_parts}
+use Rattle.panda_sim.proofs.SignedTexts.{same_number, same_signed}
 
 -- a line ends at its first newline
 pub one_line : (a b x y : List ℕ) → IsText a → IsText b → a ++ 10 ∷ x ≡ b ++ 10 ∷ y → (a ≡ b) × (x ≡ y)
@@ -24,47 +24,12 @@ one_line (c ∷ a) (d ∷ b) x y ta tb e =
 pub no_newline : (a x : List ℕ) → ¬ (IsText (a ++ 10 ∷ x))
 no_newline a x h = h (length a) 0 (omega (arith, length-append a (10 ∷ x))) (get_or_at a 10 x 0 (length a) refl)
 
--- digits write one number
-same_number : (text : List ℕ) (m n : ℕ) → WritesNumber text m → WritesNumber text n → m ≡ n
-same_number text m n v w = sym v.value ∙ w.value
-
--- digits begin with a digit
-first_digit : (digits : List ℕ) → IsUint digits → IsDigit (get_or digits 0 0)
-first_digit digits u = u.digits 0 0 u.some
-
--- a minus sign is no digit
-minus_no_digit : (digits more : List ℕ) → IsUint digits → digits ≡ 45 ∷ more → ⊥
-minus_no_digit digits more u e =
-    let d : IsDigit 45 = subst IsDigit (ap (λ t. get_or t 0 0) e) (first_digit digits u) in
-    omega (arith, d.0)
-
 -- `#` is no digit
 hash_no_digit : (digits rest comment : List ℕ) → IsUint digits → digits ++ rest ≡ 35 ∷ comment → ⊥
 hash_no_digit [] rest comment u e = omega (arith, u.some)
 hash_no_digit (b ∷ digits) rest comment u e =
     let d : IsDigit 35 = subst IsDigit (ap (λ t. get_or t 0 0) e) (All-head IsDigit b digits u.digits) in
     omega (arith, d.0)
-
--- the digits with their sign, and the number
-abbrev signed_text : Bool → List ℕ → List ℕ
-signed_text negative digits = if negative then 45 ∷ digits else digits
-
-abbrev signed_value : Bool → ℕ → ℤ
-signed_value negative size = if negative then neg_ℤ (pos size) else pos size
-
--- a text with or without a minus sign writes one number
-signed_by : (text : List ℕ) (v w : ℤ) (p q : Bool) (a b : List ℕ) (m n : ℕ) → WritesNumber a m → WritesNumber b n → text ≡ signed_text p a → text ≡ signed_text q b → v ≡ signed_value p m → w ≡ signed_value q n → v ≡ w
-signed_by text v w true true a b m n wa wb ea eb ev ew =
-    let same : a ≡ b = ap (drop 1) (sym ea ∙ eb) in
-    ev ∙ (ap (λ k. neg_ℤ (pos k)) (same_number b m n (subst (λ t. WritesNumber t m) same wa) wb) ∙ sym ew)
-signed_by text v w true false a b m n wa wb ea eb ev ew = absurd (minus_no_digit b a wb.grammar (sym eb ∙ ea))
-signed_by text v w false true a b m n wa wb ea eb ev ew = absurd (minus_no_digit a b wa.grammar (sym ea ∙ eb))
-signed_by text v w false false a b m n wa wb ea eb ev ew =
-    let same : a ≡ b = sym ea ∙ eb in
-    ev ∙ (ap (λ k. pos k) (same_number b m n (subst (λ t. WritesNumber t m) same wa) wb) ∙ sym ew)
-
-same_signed : (text : List ℕ) (v w : ℤ) → WritesSigned text v → WritesSigned text w → v ≡ w
-same_signed text v w a b = signed_by text v w a.negative b.negative a.digits b.digits a.size b.size a.number b.number a.spelled b.spelled a.signed b.signed
 
 -- the text after a session's number is one
 same_follows : (more s t : List ℕ) → Follows more s → Follows more t → s ≡ t
@@ -75,16 +40,25 @@ same_follows more s t (inr a) (inr b) = ap (drop 1) (sym a ∙ b)
 
 -- what stands behind a tick says one thing
 pub one_deed : (rest : List ℕ) (d e : Deed) → Says rest d → Says rest e → d ≡ e
-one_deed rest (Level t v) (Level u w) h k =
+one_deed rest (Level t v) (Level u w) (inl h) (inl k) =
     let both = sym h.4 ∙ k.4 in
     let written : h.2 ≡ k.2 = ap (drop 10) both in
     let number : 49 + t ≡ 49 + u = ap (λ x. get_or x 8 0) both in
     let target : t ≡ u = omega arith in
     let value : v ≡ w = same_signed k.2 v w (subst (λ x. WritesSigned x v) written h.3) k.3 in
     cc
-one_deed rest (Level t v) (Command s x) h k = absurd (omega (arith, ap (λ l. get_or l 1 0) (sym h.4 ∙ k.5)))
-one_deed rest (Level t v) End h k = absurd (omega (arith, ap (λ l. get_or l 1 0) (sym h.4 ∙ k)))
-one_deed rest (Command s x) (Level u w) h k = absurd (omega (arith, ap (λ l. get_or l 1 0) (sym h.5 ∙ k.4)))
+one_deed rest (Level t v) (Level u w) (inl h) (inr k) = absurd (omega (arith, ap (λ l. get_or l 3 0) (sym h.4 ∙ k.5)))
+one_deed rest (Level t v) (Level u w) (inr h) (inl k) = absurd (omega (arith, ap (λ l. get_or l 3 0) (sym h.5 ∙ k.4)))
+one_deed rest (Level t v) (Level u w) (inr h) (inr k) =
+    let both = sym h.5 ∙ k.5 in
+    let written : h.3 ≡ k.3 = ap (drop 10) both in
+    let number : 43 + t ≡ 43 + u = ap (λ x. get_or x 8 0) both in
+    let target : t ≡ u = omega arith in
+    let value : v ≡ w = same_signed k.3 v w (subst (λ x. WritesSigned x v) written h.4) k.4 in
+    cc
+one_deed rest (Level t v) (Command s x) h k = absurd (omega (arith, row_sign rest t v h, ap (λ l. get_or l 1 0) k.5))
+one_deed rest (Level t v) End h k = absurd (omega (arith, row_sign rest t v h, ap (λ l. get_or l 1 0) k))
+one_deed rest (Command s x) (Level u w) h k = absurd (omega (arith, row_sign rest u w k, ap (λ l. get_or l 1 0) h.5))
 one_deed rest (Command s x) (Command t y) h k =
     let both : h.1 ++ h.2 ≡ k.1 ++ k.2 = ap (drop 3) (sym h.5 ∙ k.5) in
     let cut = digits_cut_once h.1 k.1 h.2 k.2 h.3.grammar.digits k.3.grammar.digits (follows_no_digit h.2 x h.4) (follows_no_digit k.2 y k.4) both in
@@ -92,7 +66,7 @@ one_deed rest (Command s x) (Command t y) h k =
     let text : x ≡ y = same_follows k.2 x y (subst (λ more. Follows more x) cut.1 h.4) k.4 in
     cc
 one_deed rest (Command s x) End h k = absurd (omega (arith, ap (λ l. get_or l 1 0) (sym h.5 ∙ k)))
-one_deed rest End (Level u w) h k = absurd (omega (arith, ap (λ l. get_or l 1 0) (sym h ∙ k.4)))
+one_deed rest End (Level u w) h k = absurd (omega (arith, row_sign rest u w k, ap (λ l. get_or l 1 0) h))
 one_deed rest End (Command t y) h k = absurd (omega (arith, ap (λ l. get_or l 1 0) (sym h ∙ k.5)))
 one_deed rest End End h k = refl
 

@@ -18,8 +18,8 @@ abbrev pub line_of : ReadLine → Line
 line_of lines.Skipped = Skipped
 line_of (lines.Timed tick deed) = Timed tick (deed_of deed)
 
--- the input and its level are in range
+-- the input and its value are in range
 abbrev pub IsReadDeed : ReadDeed → Type 0
-IsReadDeed (deeds.Level target value) = (target < 6) × ((value ≡ pos 0) ⊎ (value ≡ pos 1))
+IsReadDeed (deeds.Level target value) = (target < 10) × (target < 6 → (value ≡ pos 0) ⊎ (value ≡ pos 1))
 IsReadDeed (deeds.Command text) = Unit {0}
 IsReadDeed deeds.End = Unit {0}

@@ -1,7 +1,7 @@
 -- The output of a script: the answers to its events, each as a section.
 use Rattle.std.specs.Prelude.{ℕ, ◌==◌, List, [], ◌∷◌, ◌++◌, length, codes, decimal, if◌then◌else◌}
 use Rattle.std.specs.List.{flat_map}
-use Rattle.pb_core.specs.declared.Row.{Row}
+use Rattle.pb_stim.specs.declared.Row.{Row}
 use Rattle.pb_core.specs.declared.Event.{Event}
 use Rattle.pb_core.specs.declared.Event.TheVariants as events
 use Rattle.pb_core.specs.Answer.{CoreState, opening, answer, after, bytes_of}
@@ -30,7 +30,7 @@ section tick session bytes =
 
 -- what is written for an event: only a session is answered
 abbrev pub written : CoreState → Event → List ℕ
-written core (events.Line id text) = section core.box.tick id (bytes_of (answer core (events.Line id text)))
+written core (events.Line id text) = section core.box.stands.tick id (bytes_of (answer core (events.Line id text)))
 written core (events.Advance to) = []
 
 -- what is written for the events, one after the other

@@ -1,11 +1,12 @@
 -- Replay scripts of the first path: which bytes are which lines.
-use Rattle.std.specs.Prelude.{◌≡◌, ℕ, ℤ, pos, neg_ℤ, ◌+◌, ◌<◌, ◌≤◌, ◌^◌, ◌⊎◌, Bool, true, false, List, [], ◌∷◌, ◌++◌, length, codes, if◌then◌else◌}
+use Rattle.std.specs.Prelude.{◌≡◌, ℕ, ℤ, pos, neg_ℤ, ◌+◌, ◌<◌, ◌≤◌, ◌^◌, ◌⊎◌, Bool, true, false, List, [], ◌∷◌, ◌++◌, length, codes, FitsSigned, if◌then◌else◌}
+use Rattle.std.specs.Int.{w32}
 use Rattle.pb_words.specs.Numbers.{WritesNumber}
 use Rattle.pb_grammar.specs.Grammar.{IsText}
 
 -- what happens at the tick of a line
 pub data Deed : Type 0 where
-  -- a TTL input, counted from 0, has this level from here on
+  -- an input has this value from here on: 0 to 5 are TTL inputs 1 to 6, and 6 to 9 encoders 1 to 4
   Level : (target : ℕ) (value : ℤ) → Deed
   -- a control session sends this line
   Command : (session : ℕ) (text : List ℕ) → Deed
@@ -30,12 +31,22 @@ pub record WritesSigned (text : List ℕ) (value : ℤ) : Type 0 where
 abbrev pub Follows : List ℕ → List ℕ → Type 0
 Follows rest text = ((rest ≡ []) × (text ≡ [])) ⊎ (rest ≡ 32 ∷ text)
 
--- What stands behind the tick of a line with this deed.
-abbrev pub Says : List ℕ → Deed → Type 0
--- ` S TTLIN3 1`: inputs 1 to 6, levels 0 and 1
-Says rest (Level target value) =
+-- ` S TTLIN3 1`: TTL inputs 1 to 6, levels 0 and 1
+abbrev pub IsTtlRow : List ℕ → ℕ → ℤ → Type 0
+IsTtlRow rest target value =
     (target < 6) × ((value ≡ pos 0) ⊎ (value ≡ pos 1))
     × (written : List ℕ) × WritesSigned written value × (rest ≡ codes " S TTLIN" ++ (49 + target) ∷ 32 ∷ written)
+
+-- ` S INENC3 -5`: encoders 1 to 4, positions of signed 32 bits
+abbrev pub IsEncoderRow : List ℕ → ℕ → ℤ → Type 0
+IsEncoderRow rest target value =
+    (6 ≤ target) × (target < 10) × FitsSigned w32 value
+    × (written : List ℕ) × WritesSigned written value × (rest ≡ codes " S INENC" ++ (43 + target) ∷ 32 ∷ written)
+
+-- What stands behind the tick of a line with this deed.
+abbrev pub Says : List ℕ → Deed → Type 0
+-- a row of the stimulus
+Says rest (Level target value) = IsTtlRow rest target value ⊎ IsEncoderRow rest target value
 -- ` C 1 LUT1.OUT?`: session 1 alone
 Says rest (Command session text) =
     (session ≡ 1)

@@ -10,21 +10,21 @@ pub fn worked_scripts()
     ensures latency { output (
         Timed 0 (Command 1 (codes "LUT1.INPA=TTLIN1.VAL"))
         ∷ Timed 0 (Command 1 (codes "LUT1.FUNC=~A"))
-        ∷ Timed 10 (Command 1 (codes "TTLIN1.VAL?"))
-        ∷ Timed 10 (Level 0 (pos 1))
-        ∷ Timed 10 (Command 1 (codes "LUT1.OUT?"))
-        ∷ Timed 11 (Command 1 (codes "LUT1.OUT?"))
-        ∷ Timed 11 End
+        ∷ Timed 2 (Command 1 (codes "TTLIN1.VAL?"))
+        ∷ Timed 2 (Level 0 (pos 1))
+        ∷ Timed 2 (Command 1 (codes "LUT1.OUT?"))
+        ∷ Timed 3 (Command 1 (codes "LUT1.OUT?"))
+        ∷ Timed 3 End
         ∷ [])
-        ≡ codes "0 C 1 3\nOK\n0 C 1 3\nOK\n10 C 1 6\nOK =1\n10 C 1 6\nOK =1\n11 C 1 6\nOK =0\n" }
+        ≡ codes "0 C 1 3\nOK\n0 C 1 3\nOK\n2 C 1 6\nOK =1\n2 C 1 6\nOK =1\n3 C 1 6\nOK =0\n" }
     ensures toggling { output (
         Timed 0 (Command 1 (codes "LUT1.INPA=LUT1.OUT"))
         ∷ Timed 0 (Command 1 (codes "LUT1.FUNC=~A"))
-        ∷ Timed 9 (Command 1 (codes "LUT1.OUT?"))
-        ∷ Timed 10 (Command 1 (codes "LUT1.OUT?"))
-        ∷ Timed 10 End
+        ∷ Timed 1 (Command 1 (codes "LUT1.OUT?"))
+        ∷ Timed 2 (Command 1 (codes "LUT1.OUT?"))
+        ∷ Timed 2 End
         ∷ [])
-        ≡ codes "0 C 1 3\nOK\n0 C 1 3\nOK\n9 C 1 6\nOK =1\n10 C 1 6\nOK =0\n" }
+        ≡ codes "0 C 1 3\nOK\n0 C 1 3\nOK\n1 C 1 6\nOK =1\n2 C 1 6\nOK =0\n" }
     ensures refused { output (
         Skipped
         ∷ Timed 0 (Command 1 [])

@@ -1,7 +1,8 @@
 /// What happens at the tick of a line.
 #[derive(Clone, Copy, Debug)]
 pub enum ReadDeed<'a> {
-    /// TTL input 0 to 5 has level 0 or 1 from here on.
+    /// From here on an input has this value: 0 to 5 are TTL inputs 1 to 6, with 0 or 1, and 6 to 9
+    /// encoders 1 to 4.
     Level(u8, i32),
     /// Control session 1 sends this line.
     Command(&'a [u8]),

@@ -1,6 +1,6 @@
 ghost use Rattle.std.specs.Prelude.{◌≡◌, ℕ, ◌+◌, ◌<◌, ◌≤◌, ◌^◌, ◌⊎◌, ◌++◌, pos, List, Bool, IfOk, OnOk, IfSome, IfNone};
 ghost use Rattle.std.specs.List.{flat_map};
-ghost use Rattle.pb_core.specs.Stimulus.{last_tick};
+ghost use Rattle.pb_stim.specs.Stimulus.{last_tick};
 ghost use Rattle.panda_sim.specs.Script.{Line, Timed, is_end, IsScript};
 ghost use Rattle.panda_sim.specs.Lines.{deed_of, IsReadDeed};
 ghost use Rattle.panda_sim.specs.Output.{rows_of, events_of};
@@ -10,7 +10,7 @@ use crate::cuts::cut_line;
 use crate::lines::{ReadDeed, ReadLine};
 use crate::reading::read_line;
 use crate::scripts::{Script, Step};
-use pb_core::Stimulus;
+use pb_stim::Stimulus;
 use pb_words::OutOfMemory;
 use std::alloc::Global;
 

@@ -1,7 +1,8 @@
 ghost use Rattle.std.specs.Prelude.{◌≡◌, ℕ, ◌<◌, ◌≤◌, ◌++◌, ◌∷◌, [], ◌^◌, All, IfOk};
 ghost use Rattle.std.specs.List.{flat_map};
 ghost use Rattle.pb_ports.specs.Ports.{Rose};
-ghost use Rattle.pb_core.specs.Answer.{after, after_all};
+ghost use Rattle.pb_core.specs.Kept.{Agrees};
+ghost use Rattle.pb_core.specs.Answer.{CoreState, after, after_all};
 ghost use Rattle.panda_sim.specs.Output.{written, sections};
 ghost use Rattle.panda_sim.specs.Plays.{Plays};
 ghost use Rattle.panda_sim.specs.KeptScript.{step_events, script_output};
@@ -46,7 +47,8 @@ fn play_steps<K: Sink, L: Ledger>(
     steps: &mut Steps<L>,
 ) -> Played
     requires { All (λ step. step.tick < 2 ^ 62) moments.now }
-    ensures plays { Plays (sections core.old (flat_map step_events moments.now)) result (K.held output.old) (K.held output.new) }
+    ensures plays { (state : CoreState) → Agrees core.old state →
+        Plays (sections state (flat_map step_events moments.now)) result (K.held output.old) (K.held output.new) }
     ensures cause { result ≡ Played.WriteFault → Rose (K.faults output.old) (K.faults output.new) }
     ensures count { K.faults output.old ≤ K.faults output.new }
 {
@@ -70,8 +72,10 @@ fn play_step<K: Sink, L: Ledger>(
     steps: &mut Steps<L>,
 ) -> Played
     requires { moment.now.tick < 2 ^ 62 }
-    ensures plays { Plays (sections core.old (step_events moment.now)) result (K.held output.old) (K.held output.new) }
-    ensures core { result ≡ Played.Ok → core.new ≡ after_all core.old (step_events moment.now) }
+    ensures plays { (state : CoreState) → Agrees core.old state →
+        Plays (sections state (step_events moment.now)) result (K.held output.old) (K.held output.new) }
+    ensures core { result ≡ Played.Ok → (state : CoreState) → Agrees core.old state →
+        Agrees core.new (after_all state (step_events moment.now)) }
     ensures cause { result ≡ Played.WriteFault → Rose (K.faults output.old) (K.faults output.new) }
     ensures count { K.faults output.old ≤ K.faults output.new }
 {
@@ -93,8 +97,10 @@ fn play_line<K: Sink, L: Ledger>(
     output: &mut K,
     steps: &mut Steps<L>,
 ) -> Played
-    ensures plays { Plays (written core.old (Event.Line 1 (text.now ++ 10 ∷ []))) result (K.held output.old) (K.held output.new) }
-    ensures core { result ≡ Played.Ok → core.new ≡ after core.old (Event.Line 1 (text.now ++ 10 ∷ [])) }
+    ensures plays { (state : CoreState) → Agrees core.old state →
+        Plays (written state (Event.Line 1 (text.now ++ 10 ∷ []))) result (K.held output.old) (K.held output.new) }
+    ensures core { result ≡ Played.Ok → (state : CoreState) → Agrees core.old state →
+        Agrees core.new (after state (Event.Line 1 (text.now ++ 10 ∷ []))) }
     ensures cause { result ≡ Played.WriteFault → Rose (K.faults output.old) (K.faults output.new) }
     ensures count { K.faults output.old ≤ K.faults output.new }
 {

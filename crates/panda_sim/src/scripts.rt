@@ -1,6 +1,6 @@
 ghost use Rattle.std.specs.Prelude.{◌<◌, ◌^◌, All};
 
-use pb_core::Stimulus;
+use pb_stim::Stimulus;
 
 /// What is played at a tick.
 #[derive(Clone, Copy, Debug)]

@@ -6,11 +6,11 @@ use Rattle.std.proofs.lemmas.Bool.{ltb-true, ltb-false, eqb-true, eqb-false}
 use Rattle.std.proofs.lemmas.List.{take-append-drop, take_more, length-set, get_or-set_other}
 use Rattle.std.proofs.lemmas.List.FromFn.{length-map-range_with_len, get_or-map-range_with_len, fill_by_all}
 use Rattle.std.proofs.lemmas.Grind.{get_or-set_at}
-use Rattle.pb_core.specs.declared.stimuli.Row.{Row}
-use Rattle.pb_core.specs.Stimulus.{value_at}
-use Rattle.pb_core.specs.Tick.{is_high, inputs_at}
-use Rattle.pb_core.specs.Current.{values_at, with_row}
-use Rattle.pb_core.proofs.StimulusLemmas.{value_after-append, value_after-coming, value_after-past, past_counts}
+use Rattle.pb_stim.specs.declared.Row.{Row}
+use Rattle.pb_stim.specs.Stimulus.{value_at}
+use Rattle.pb_core.specs.Tick.{levels_at, encoders_at}
+use Rattle.pb_core.specs.Current.{values_at, with_row, levels_of}
+use Rattle.pb_stim.proofs.StimulusLemmas.{value_after-append, value_after-coming, value_after-past, past_counts}
 
 -- a list of ten values, by its places
 ten : (f : ℕ → ℤ) (values : List ℤ) → length values ≡ 10 → ((i : ℕ) → i < 10 → get_or values i (pos 0) ≡ f i) → values ≡ map f (range_with_len 0 10)
@@ -31,12 +31,12 @@ replaced_length true values target v = length-set values target v
 replaced_length false values target v = refl
 
 -- one more row that has come
-pub values_at-push : (rows : List Row) (row : Row) (tick : ℕ) → row.tick ≤ tick → values_at (rows ++ row ∷ []) tick ≡ with_row (values_at rows tick) row
+pub values_at-push : (rows : List Row) (row : Row) (tick : ℕ) → row.tick ≤ tick → values_at (rows ++ row ∷ []) tick ≡ with_row (values_at rows tick) row.target row.value
 values_at-push rows row tick h =
     let f : ℕ → ℤ = λ i. value_at rows i tick in
     let g : ℕ → ℤ = λ i. value_at (rows ++ row ∷ []) i tick in
     let long : length (map f (range_with_len 0 10)) ≡ 10 = length-map-range_with_len f 0 10 in
-    sym (ten g (with_row (values_at rows tick) row)
+    sym (ten g (with_row (values_at rows tick) row.target row.value)
     (replaced_length (nat_lt row.target 10) (map f (range_with_len 0 10)) row.target row.value ∙ long)
     (λ i lt.
     replaced_at (nat_lt row.target 10) (row.target == i) (map f (range_with_len 0 10)) row.target i row.value long lt refl refl
@@ -65,13 +65,16 @@ values_at-later rows tick later le h =
     same_values rows rows tick later (λ i. sym (value_after-past rows (pos 0) i tick later le h))
 
 -- the values once the next row has come
-pub levels_more : (rows : List Row) (place tick : ℕ) (d : Row) (values new : List ℤ) → place < length rows → (get_or rows place d).tick ≤ tick → values ≡ values_at (take place rows) tick → new ≡ with_row values (get_or rows place d) → new ≡ values_at (take (place + 1) rows) tick
+pub levels_more : (rows : List Row) (place tick : ℕ) (d : Row) (values new : List ℤ) → place < length rows → (get_or rows place d).tick ≤ tick → values ≡ values_at (take place rows) tick → new ≡ with_row values (get_or rows place d).target (get_or rows place d).value → new ≡ values_at (take (place + 1) rows) tick
 levels_more rows place tick d values new within come was is =
     is
-    ∙ (ap (λ all. with_row all (get_or rows place d)) was
+    ∙ (ap (λ all. with_row all (get_or rows place d).target (get_or rows place d).value) was
     ∙ (sym (values_at-push (take place rows) (get_or rows place d) tick come)
     ∙ ap (λ front. values_at front tick) (sym (take_more rows place d within))))
 
--- the first six values are those of the inputs
-pub inputs_of_values : (rows : List Row) (tick : ℕ) → map is_high (take 6 (values_at rows tick)) ≡ inputs_at rows tick
-inputs_of_values rows tick = refl
+-- the first six values are those of TTLIN, and the others those of INENC
+pub levels_are : (rows : List Row) (tick : ℕ) → levels_of (values_at rows tick) ≡ levels_at rows tick
+levels_are rows tick = refl
+
+pub encoders_are : (rows : List Row) (tick : ℕ) → drop 6 (values_at rows tick) ≡ encoders_at rows tick
+encoders_are rows tick = refl

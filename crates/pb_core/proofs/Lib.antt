@@ -1,9 +1,8 @@
-pub mod BoxLemmas
 pub mod CoreLemmas
 pub mod FieldLemmas
 pub mod LevelLemmas
-pub mod Mapped
-pub mod StimulusLemmas
 pub mod NamingLemmas
-pub mod LutLemmas
+pub mod PutLemmas
 pub mod ReachedLemmas
+pub mod MuxLemmas
+pub mod MuxedLemmas

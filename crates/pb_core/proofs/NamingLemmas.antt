@@ -5,7 +5,8 @@ use Rattle.std.specs.Option.{option_map_or}
 use Rattle.pb_words.specs.declared.Refusal.TheVariants as refusals
 use Rattle.pb_grammar.specs.Grammar.{after_front}
 use Rattle.pb_grammar.proofs.Fronts.{Follows, after_front_follows, after_front_of}
-use Rattle.pb_core.specs.Core.{CoreState}
+use Rattle.pb_model.specs.Tick.{Standing}
+use Rattle.pb_config.specs.Settings.{Settings}
 use Rattle.pb_core.specs.Naming.{is_same, star_named, block_named, named_by}
 use Rattle.pb_core.specs.Queries.{query_reply}
 use Rattle.pb_core.specs.Assignments.{assignment}
@@ -36,7 +37,7 @@ named_star : (name : List ℕ) → named_by (codes "*" ++ name) ≡ star_named n
 unfolding named_by
 named_star name = ap (λ found. option_map_or star_named found (block_named (codes "*" ++ name))) (after_front_of (codes "*") name)
 
-pub unknown_star : (core : CoreState) (name value : List ℕ) → name ≢ codes "IDN" → name ≢ codes "BLOCKS" → name ≢ codes "POSITIONS" → ((target : List ℕ) → name ≢ codes "ENUMS." ++ target) → (query_reply core (codes "*" ++ name) ≡ Err refusals.NoSuchField) × (assignment core (codes "*" ++ name) value ≡ Err refusals.NoSuchField)
-unknown_star core name value a b c d =
+pub unknown_star : (settings : Settings) (box : Standing) (name value : List ℕ) → name ≢ codes "IDN" → name ≢ codes "BLOCKS" → name ≢ codes "POSITIONS" → ((target : List ℕ) → name ≢ codes "ENUMS." ++ target) → (query_reply settings box (codes "*" ++ name) ≡ Err refusals.NoSuchField) × (assignment settings (codes "*" ++ name) value ≡ Err refusals.NoSuchField)
+unknown_star settings box name value a b c d =
     let e = named_star name ∙ none_of name a b c d in
     (rw e refl, rw e refl)

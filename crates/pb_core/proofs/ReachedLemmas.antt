@@ -8,26 +8,26 @@ use Rattle.pb_fields.specs.declared.Slot.{Slot}
 use Rattle.pb_fields.specs.Slots.{IsSlot}
 use Rattle.pb_fields.specs.Finding.{found_of, block_found}
 use Rattle.pb_fields.proofs.NamedLemmas.{found_of-named}
-use Rattle.pb_grammar.specs.Grammar.{Said, Query, Assign, Echo, Bad, command_of, after_front, before_end}
+use Rattle.pb_grammar.specs.Grammar.{Said, Query, Assign, Table, Echo, Bad, command_of, after_front, before_end}
 use Rattle.pb_config.specs.Assigning.{raw_given, after_by}
 use Rattle.pb_config.specs.Reached.{IsReached, at_first, by_assignment}
-use Rattle.pb_core.specs.declared.stimuli.Row.{Row}
+use Rattle.pb_stim.specs.declared.Row.{Row}
 use Rattle.pb_core.specs.declared.targets.Named.{Named}
 use Rattle.pb_core.specs.declared.targets.Named.TheVariants as names
 use Rattle.pb_core.specs.declared.events.Event.{Event}
 use Rattle.pb_core.specs.declared.events.Event.TheVariants as events
 use Rattle.pb_core.specs.Core.{CoreState, opening}
 use Rattle.pb_core.specs.Naming.{is_same, has_point, labels_named, star_named, listing_named, block_named, named_by}
-use Rattle.pb_core.specs.Assignments.{with_raw, named_assigned}
+use Rattle.pb_core.specs.Assignments.{given, named_given}
 use Rattle.pb_core.specs.Answer.{left_by, said_after, after, after_all}
 
 -- where a value is named, it is a slot
 
-IsSlotThere : Named → Type 0
+unfoldable pub IsSlotThere : Named → Type 0
 IsSlotThere (names.Value slot) = IsSlot slot
 IsSlotThere _ = Unit {0}
 
-IsFound : Result Named Refusal → Type 0
+unfoldable pub IsFound : Result Named Refusal → Type 0
 IsFound r = IfOk r IsSlotThere
 
 either : (b : Bool) (x y : Result Named Refusal) → IsFound x → IsFound y → IsFound (if b then x else y)
@@ -80,17 +80,17 @@ listing_found target None = value_found (found_of target) (λ slot e. (found_of-
 listing_found target (Some front) =
     either (has_point front) _ _ (attributes_found (found_of front)) (fields_found (block_found front))
 
-found_by : (target : List ℕ) (name : Option (List ℕ)) → IsFound (option_map_or star_named name (block_named target))
+pub found_by : (target : List ℕ) (name : Option (List ℕ)) → IsFound (option_map_or star_named name (block_named target))
 found_by target None = listing_found target (before_end (codes ".*") target)
 found_by target (Some name) = star_found name
 
 -- what an event leaves
 
-slot_left : (core : CoreState) (slot : Slot) (text : List ℕ) (r : Result ℕ Refusal) → after_by core.settings slot text r ≡ (left_by core (result_map (with_raw core slot text) r)).settings
+slot_left : (core : CoreState) (slot : Slot) (text : List ℕ) (r : Result ℕ Refusal) → after_by core.settings slot text r ≡ (left_by core (result_map (given slot text) r)).settings
 slot_left core slot text (Ok raw) = refl
 slot_left core slot text (Err refusal) = refl
 
-left : (core : CoreState) (text : List ℕ) (r : Result Named Refusal) → IsFound r → IsReached core.settings → IsReached (left_by core (result_then r (named_assigned core text))).settings
+left : (core : CoreState) (text : List ℕ) (r : Result Named Refusal) → IsFound r → IsReached core.settings → IsReached (left_by core (result_then r (named_given core.settings text))).settings
 unfolding IsFound IsSlotThere
 left core text (Err refusal) f h = h
 left core text (Ok (names.Value slot)) f h =
@@ -101,6 +101,7 @@ said_left : (core : CoreState) (said : Said) → IsReached core.settings → IsR
 unfolding named_by
 said_left core (Query target) h = h
 said_left core (Assign target value) h = left core value (named_by target) (found_by target (after_front (codes "*") target)) h
+said_left core (Table target append base64 body) h = h
 said_left core (Echo text) h = h
 said_left core (Bad refusal) h = h
 

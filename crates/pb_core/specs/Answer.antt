@@ -1,17 +1,22 @@
 -- One event: what it answers, and what it leaves.
 use Rattle.std.specs.Prelude.{ℕ, ◌-◌, ◌<◌, ◌^◌, max, List, [], ◌∷◌, Result, Ok, Err, codes}
 use Rattle.pb_words.specs.declared.Refusal.{Refusal}
+use Rattle.pb_words.specs.declared.Refusal.TheVariants as refusals
 use Rattle.pb_words.specs.Refusals.{line_of}
-use Rattle.pb_grammar.specs.Grammar.{Said, Query, Assign, Echo, Bad, command_of}
+use Rattle.pb_grammar.specs.Grammar.{Said, Query, Assign, Table, Echo, Bad, command_of}
 use Rattle.pb_replies.specs.Replies.{value_reply}
 use Rattle.pb_core.specs.declared.events.Event.{Event}
 use Rattle.pb_core.specs.declared.events.Event.TheVariants as events
 use Rattle.pb_core.specs.declared.events.Answer.{Answer}
 use Rattle.pb_core.specs.declared.events.Answer.TheVariants as answers
+use Rattle.pb_model.specs.Tick.{Standing}
+use Rattle.pb_config.specs.Settings.{Settings}
 use Rattle.pb_core.specs.Tick.{ticks}
 pub use Rattle.pb_core.specs.Core.{CoreState, opening, with_box}
 use Rattle.pb_core.specs.Queries.{query_reply}
-use Rattle.pb_core.specs.Assignments.{assignment}
+use Rattle.pb_core.specs.Assignments.{Given, with_given, assignment}
+use Rattle.pb_core.specs.Naming.{named_by}
+use Rattle.pb_core.specs.declared.targets.Named.{Named}
 
 -- Commands.
 
@@ -21,26 +26,33 @@ replied (Ok reply) = answers.Reply reply
 replied (Err refusal) = answers.Error refusal
 
 -- that it is done, or a refusal
-abbrev pub done : Result CoreState Refusal → Answer
-done (Ok core) = answers.Ok
+abbrev pub done : Result Given Refusal → Answer
+done (Ok new) = answers.Ok
 done (Err refusal) = answers.Error refusal
 
--- what was done, or the core as it was
-abbrev pub left_by : CoreState → Result CoreState Refusal → CoreState
-left_by core (Ok next) = next
+-- the core where this was given, or as it was
+abbrev pub left_by : CoreState → Result Given Refusal → CoreState
+left_by core (Ok new) = with_given core new
 left_by core (Err refusal) = core
 
--- the answer to a command
-abbrev pub said_answer : CoreState → Said → Answer
-said_answer core (Query target) = replied (query_reply core target)
-said_answer core (Assign target value) = done (assignment core target value)
-said_answer core (Echo text) = answers.Reply (value_reply text)
-said_answer core (Bad refusal) = answers.Error refusal
+-- why the table of a target isn't written: no target has one yet
+abbrev pub table_refusal : Result Named Refusal → Refusal
+table_refusal (Ok named) = refusals.NotWriteable
+table_refusal (Err refusal) = refusal
+
+-- the answer to a command, by the settings and what stands in the box
+abbrev pub said_answer : Settings → Standing → Said → Answer
+said_answer settings box (Query target) = replied (query_reply settings box target)
+said_answer settings box (Assign target value) = done (assignment settings target value)
+said_answer settings box (Table target append base64 body) = answers.Error (table_refusal (named_by target))
+said_answer settings box (Echo text) = answers.Reply (value_reply text)
+said_answer settings box (Bad refusal) = answers.Error refusal
 
 -- the core after a command: only an assignment that is accepted changes it
 abbrev pub said_after : CoreState → Said → CoreState
 said_after core (Query target) = core
-said_after core (Assign target value) = left_by core (assignment core target value)
+said_after core (Assign target value) = left_by core (assignment core.settings target value)
+said_after core (Table target append base64 body) = core
 said_after core (Echo text) = core
 said_after core (Bad refusal) = core
 
@@ -48,7 +60,7 @@ said_after core (Bad refusal) = core
 
 -- the core after the ticks up to this one; a tick below now changes nothing
 abbrev pub advanced : CoreState → ℕ → CoreState
-advanced core to = with_box core (ticks (to - core.box.tick) core.rows core.box)
+advanced core to = with_box core (ticks (to - core.box.stands.tick) core.rows core.box)
 
 -- what may happen: the box goes to a tick below 2^62
 abbrev pub CanHappen : Event → Type 0
@@ -57,13 +69,18 @@ CanHappen (events.Advance to) = to < 2 ^ 62
 
 -- what an event answers
 abbrev pub answer : CoreState → Event → Answer
-answer core (events.Line id text) = said_answer core (command_of text)
-answer core (events.Advance to) = answers.Reached (max core.box.tick to)
+answer core (events.Line id text) = said_answer core.settings core.box.stands (command_of text)
+answer core (events.Advance to) = answers.Reached (max core.box.stands.tick to)
 
 -- the core after an event
 abbrev pub after : CoreState → Event → CoreState
 after core (events.Line id text) = said_after core (command_of text)
 after core (events.Advance to) = advanced core to
+
+-- how many ticks of the box an event takes, from this tick on
+abbrev pub ticks_of : ℕ → Event → ℕ
+ticks_of now (events.Line id text) = 0
+ticks_of now (events.Advance to) = to - now
 
 -- the core after these events, one after the other
 abbrev pub after_all : CoreState → List Event → CoreState

@@ -17,13 +17,13 @@ at_tick tick core = after core (events.Advance tick)
 abbrev pub told : CoreState → ℕ → List ℕ → Answer
 told core tick bytes = answer (at_tick tick core) (line bytes)
 
--- TTL input 1 is high from tick 10 on
-abbrev pub rises_at_10 : CoreState
-rises_at_10 = opening (record { tick = 10; target = 0; value = pos 1 } ∷ [])
+-- TTL input 1 is high from tick 2 on
+abbrev pub rises_at_2 : CoreState
+rises_at_2 = opening (record { tick = 2; target = 0; value = pos 1 } ∷ [])
 
 -- there LUT 1 is high where TTL input 1 is low
 abbrev pub inverter : CoreState
-inverter = after_all rises_at_10 (line (codes "LUT1.INPA=TTLIN1.VAL\n") ∷ line (codes "LUT1.FUNC=0x0000FFFF\n") ∷ [])
+inverter = after_all rises_at_2 (line (codes "LUT1.INPA=TTLIN1.VAL\n") ∷ line (codes "LUT1.FUNC=0x0000FFFF\n") ∷ [])
 
 -- LUT 1 is high where it was low
 abbrev pub toggle : CoreState

@@ -1,10 +1,11 @@
-pub mod Stimulus
 pub mod Tick
 pub mod Core
+pub mod Kept
 pub mod Naming
-pub mod Helpers
 pub mod Queries
 pub mod Assignments
+pub mod Helpers
 pub mod Answer
 pub mod Current
 pub mod Examples
+pub mod Muxes

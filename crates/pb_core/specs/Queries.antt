@@ -14,12 +14,13 @@ use Rattle.pb_fields.specs.declared.Attribute.TheVariants as attributes
 use Rattle.pb_fields.specs.Slots.{type_at, attribute_at, kind_of}
 use Rattle.pb_fields.specs.Entries.{output_entry}
 use Rattle.pb_fields.specs.Values.{shown, bit_raw, int_raw}
-use Rattle.pb_config.specs.Settings.{field_slot}
+use Rattle.pb_config.specs.Settings.{Settings, field_slot}
 use Rattle.pb_config.specs.Showing.{is_readable, shown_at, scaled_shown}
 use Rattle.pb_replies.specs.Replies.{value_reply, list_reply}
 use Rattle.pb_replies.specs.Lists.{block_lines, field_lines, attribute_lines, labels_at, position_lines, word_lines, row_lines}
-use Rattle.pb_core.specs.Tick.{bus_at, position_at, selected}
-use Rattle.pb_core.specs.Core.{CoreState}
+use Rattle.pb_buses.specs.Buses.{selected, position}
+use Rattle.pb_model.specs.Tick.{Standing}
+use Rattle.pb_model.specs.Settings.{read_of}
 use Rattle.pb_core.specs.declared.targets.Named.{Named}
 use Rattle.pb_core.specs.declared.targets.Named.TheVariants as names
 use Rattle.pb_core.specs.Naming.{named_by}
@@ -27,40 +28,41 @@ use Rattle.pb_core.specs.Naming.{named_by}
 -- Values.
 
 -- the level of an output
-abbrev pub level_of : CoreState → Slot → Bool
-level_of core slot = selected (bus_at core.rows core.box) (output_entry slot)
+abbrev pub level_of : Standing → Slot → Bool
+level_of box slot = selected box.bus (output_entry slot)
 
 -- the value of a position
-abbrev pub position_of : CoreState → Slot → ℤ
-position_of core slot = position_at core.rows core.box (output_entry slot - position_bus.FIRST)
+abbrev pub position_of : Standing → Slot → ℤ
+position_of box slot = position box.bus (output_entry slot - position_bus.FIRST)
 
--- What a field that can be read is answered. A field that a block reports is 0, and a table is empty.
-abbrev pub field_reply : CoreState → Slot → FieldType → List ℕ
-field_reply core slot types.ReadUint = value_reply (shown (kind_of slot) 0)
-field_reply core slot (types.ReadEnum labels) = value_reply (shown (kind_of slot) 0)
-field_reply core slot types.BitOut = value_reply (shown (kind_of slot) (bit_raw (level_of core slot)))
-field_reply core slot types.PosOut = value_reply (shown (kind_of slot) (int_raw (position_of core slot)))
-field_reply core slot types.Table = list_reply []
-field_reply core slot _ = value_reply (shown_at core.settings slot)
+-- What a field that can be read is answered. A label that a block reports is its first yet, and a table is
+-- empty.
+abbrev pub field_reply : Settings → Standing → Slot → FieldType → List ℕ
+field_reply settings box slot types.ReadUint = value_reply (shown (kind_of slot) (read_of box.blocks slot))
+field_reply settings box slot (types.ReadEnum labels) = value_reply (shown (kind_of slot) 0)
+field_reply settings box slot types.BitOut = value_reply (shown (kind_of slot) (bit_raw (level_of box slot)))
+field_reply settings box slot types.PosOut = value_reply (shown (kind_of slot) (int_raw (position_of box slot)))
+field_reply settings box slot types.Table = list_reply []
+field_reply settings box slot _ = value_reply (shown_at settings slot)
 
 -- what an attribute is answered; the words of the bit bus are fields of PCAP, one after the other
-abbrev pub attribute_reply : CoreState → Slot → Attribute → List ℕ
-attribute_reply core slot attributes.Labels = list_reply (unwrap_or (labels_at (field_slot slot)) [])
-attribute_reply core slot attributes.Scaled = value_reply (scaled_shown core.settings slot (position_of core slot))
-attribute_reply core slot attributes.Bits = list_reply (word_lines (slot.field - pcap.BITS0))
-attribute_reply core slot attributes.Length = value_reply (codes "0")
-attribute_reply core slot attributes.Fields = list_reply row_lines
-attribute_reply core slot attributes.Base64 = list_reply []
-attribute_reply core slot _ = value_reply (shown_at core.settings slot)
+abbrev pub attribute_reply : Settings → Standing → Slot → Attribute → List ℕ
+attribute_reply settings box slot attributes.Labels = list_reply (unwrap_or (labels_at (field_slot slot)) [])
+attribute_reply settings box slot attributes.Scaled = value_reply (scaled_shown settings slot (position_of box slot))
+attribute_reply settings box slot attributes.Bits = list_reply (word_lines (slot.field - pcap.BITS0))
+attribute_reply settings box slot attributes.Length = value_reply (codes "0")
+attribute_reply settings box slot attributes.Fields = list_reply row_lines
+attribute_reply settings box slot attributes.Base64 = list_reply []
+attribute_reply settings box slot _ = value_reply (shown_at settings slot)
 
-abbrev pub readable_reply : CoreState → Slot → Option Attribute → List ℕ
-readable_reply core slot None = field_reply core slot (type_at slot)
-readable_reply core slot (Some attribute) = attribute_reply core slot attribute
+abbrev pub readable_reply : Settings → Standing → Slot → Option Attribute → List ℕ
+readable_reply settings box slot None = field_reply settings box slot (type_at slot)
+readable_reply settings box slot (Some attribute) = attribute_reply settings box slot attribute
 
 -- what the query of a slot is answered, or that it can't be read
-abbrev pub slot_reply : CoreState → Slot → Result (List ℕ) Refusal
-slot_reply core slot =
-    if is_readable slot then Ok (readable_reply core slot (attribute_at slot)) else Err refusals.NotReadable
+abbrev pub slot_reply : Settings → Standing → Slot → Result (List ℕ) Refusal
+slot_reply settings box slot =
+    if is_readable slot then Ok (readable_reply settings box slot (attribute_at slot)) else Err refusals.NotReadable
 
 -- Targets.
 
@@ -73,16 +75,16 @@ abbrev pub identity : List ℕ
 identity = codes "panda_sim 1.0"
 
 -- what the query of what is named is answered
-abbrev pub named_reply : CoreState → Named → Result (List ℕ) Refusal
-named_reply core names.Identity = Ok (value_reply identity)
-named_reply core names.Blocks = Ok (list_reply block_lines)
-named_reply core names.Positions = Ok (list_reply position_lines)
-named_reply core (names.Labels slot) = labels_or_refused slot
-named_reply core (names.Fields block) = Ok (list_reply (field_lines block))
-named_reply core (names.Attributes slot) = Ok (list_reply (attribute_lines slot))
-named_reply core (names.Value slot) = slot_reply core slot
+abbrev pub named_reply : Settings → Standing → Named → Result (List ℕ) Refusal
+named_reply settings box names.Identity = Ok (value_reply identity)
+named_reply settings box names.Blocks = Ok (list_reply block_lines)
+named_reply settings box names.Positions = Ok (list_reply position_lines)
+named_reply settings box (names.Labels slot) = labels_or_refused slot
+named_reply settings box (names.Fields block) = Ok (list_reply (field_lines block))
+named_reply settings box (names.Attributes slot) = Ok (list_reply (attribute_lines slot))
+named_reply settings box (names.Value slot) = slot_reply settings box slot
 
 -- The reply to the query of a target, or the first refusal that fits: that it names nothing; then that it
 -- can't be read.
-abbrev pub query_reply : CoreState → List ℕ → Result (List ℕ) Refusal
-query_reply core target = result_then (named_by target) (named_reply core)
+abbrev pub query_reply : Settings → Standing → List ℕ → Result (List ℕ) Refusal
+query_reply settings box target = result_then (named_by target) (named_reply settings box)

@@ -1,25 +1,25 @@
-ghost use Rattle.std.specs.Prelude.{◌≡◌, ◌+◌, ◌<◌, ◌^◌, IfOk, OnOk, IfErr, OnErr};
+ghost use Rattle.std.specs.Prelude.{◌≡◌, ◌+◌, ◌-◌, ◌*◌, ◌<◌, ◌^◌, IfOk, OnOk, IfErr, OnErr};
 ghost use Rattle.pb_grammar.specs.Grammar.{command_of};
+ghost use Rattle.pb_buses.specs.Buses.{selected, position};
+ghost use Rattle.pb_fields.specs.Slots.{role_at};
 
-use crate::assignments::assign;
-use crate::boxes::BoxState;
+use crate::assignments::{assign, table_refusal};
 use crate::events::{Answer, Event};
-use crate::placing::put_rows;
+use crate::placing::{put_rows, put_values};
 use crate::queries::query;
-use crate::steps::{bus, next_outputs, see};
-use crate::stimuli::Stimulus;
 use pb_config::Config;
-use pb_fields::{Catalog, Slot};
+use pb_fields::{Catalog, Role, Slot};
 use pb_grammar::{Command, parse};
-use pb_names::{inenc, ttlin};
+use pb_model::{BoxState, tick};
 use pb_replies::value_reply;
+use pb_stim::Stimulus;
 use pb_words::{OutOfMemory, Steps};
 use std::alloc::Global;
 use std::marker::Model;
 use std::sync::ledger::Ledger;
 
 /// The box with its settings and its stimulus, which events drive. A clause sees the rows, the settings
-/// and the box.
+/// and what is kept of the box.
 #[derive(Drop)]
 pub struct Core {
     alloc: Global,
@@ -34,10 +34,10 @@ pub struct Core {
 }
 
 impl Model for Core {
-    ghost use Rattle.pb_core.specs.Core.{CoreState};
+    ghost use Rattle.pb_core.specs.Kept.{KeptCore};
     ghost use Rattle.pb_core.specs.Current.{IsCurrent};
 
-    ghost Value = { CoreState };
+    ghost Value = { KeptCore };
 
     ghost view = { λ c. record { rows = c.stimulus; settings = c.config; box = c.state } };
 
@@ -46,15 +46,19 @@ impl Model for Core {
 
 impl Core {
     ghost use Rattle.pb_fields.specs.Slots.{IsSlot};
-    ghost use Rattle.pb_core.specs.Tick.{tick, bus_at, position_at, selected};
+    ghost use Rattle.pb_model.specs.Kept.{stands_of};
+    ghost use Rattle.pb_model.specs.Settings.{read_of};
+    ghost use Rattle.pb_core.specs.Tick as definition;
     ghost use Rattle.pb_core.specs.Core.{CoreState, opening, with_box};
-    ghost use Rattle.pb_core.specs.Assignments.{slot_assigned};
-    ghost use Rattle.pb_core.specs.Answer.{advanced, CanHappen, answer, after, said_answer, said_after, done, left_by, IsReply};
+    ghost use Rattle.pb_core.specs.Kept.{Agrees};
+    ghost use Rattle.pb_core.specs.Assignments.{slot_given};
+    ghost use Rattle.pb_core.specs.Answer.{advanced, CanHappen, answer, after, ticks_of, said_answer, done, IsReply};
+    ghost use Rattle.pb_core.specs.Helpers.{kept_left_by, kept_said_after};
 
-    /// The core as it opens at tick 0. Where there is no memory for its catalogue or its settings, the
-    /// stimulus is handed back.
+    /// The core as it opens at tick 0. Where there is no memory for its catalogue, its settings or its box,
+    /// the stimulus is handed back.
     pub fn new(alloc: Global, stimulus: Stimulus) -> Result<Core, Stimulus>
-        ensures ok { IfOk result (λ core. core ≡ opening stimulus) }
+        ensures ok { IfOk result (λ core. Agrees core (opening stimulus)) }
         ensures err { IfErr result (λ back. back ≡ stimulus) }
     {
         let Ok(catalog) = Catalog::new(alloc) else {
@@ -63,8 +67,12 @@ impl Core {
         let Ok(config) = Config::new(alloc) else {
             return Err(stimulus);
         };
+        let Ok(mut state) = BoxState::new(alloc) else {
+            return Err(stimulus);
+        };
         let mut values = [0; 10];
-        let place = put_rows(stimulus.rows(), 0, &mut values, 0);
+        let place = put_rows(&stimulus, 0, &mut values, 0);
+        put_values(&mut state, &values);
         Ok(Core {
             alloc,
             catalog,
@@ -72,7 +80,7 @@ impl Core {
             stimulus,
             place,
             values,
-            state: crate::steps::opening(),
+            state,
         })
     }
 
@@ -81,26 +89,27 @@ impl Core {
         ensures now { result ≡ self.now.box.tick }
         ensures small { result < 2 ^ 62 }
     {
-        self.state.tick
+        self.state.now()
     }
 
     /// Lets an event happen, and answers it. Want of memory comes only in the place of a reply, and
-    /// changes nothing. What the counter is for comes with the jumping simulator.
+    /// changes nothing. The counter goes up by one for each step of a block: there are 35 at each tick.
     pub fn apply<L: Ledger>(
         &mut self,
         event: &Event,
         steps: &mut Steps<L>,
     ) -> Result<Answer, OutOfMemory>
         requires { CanHappen event.now }
-        ensures ok { IfOk result (λ told. told ≡ answer self.old event.now) }
-        ensures core { OnOk result (self.new ≡ after self.old event.now) }
+        ensures ok { (core : CoreState) → Agrees self.old core → IfOk result (λ told. told ≡ answer core event.now) }
+        ensures core { (core : CoreState) → Agrees self.old core → OnOk result (Agrees self.new (after core event.now)) }
         ensures err { OnErr result (self.new ≡ self.old) }
-        ensures memory { OnErr result (IsReply (answer self.old event.now)) }
+        ensures memory { (core : CoreState) → Agrees self.old core → OnErr result (IsReply (answer core event.now)) }
+        ensures counts { steps.new ≡ steps.old + 35 * ticks_of self.old.box.tick event.now }
     {
         match event {
             Event::Line { id: _, text } => self.line(text.bytes()),
             Event::Advance { to } => {
-                self.advance(*to);
+                self.advance(*to, steps);
                 Ok(Answer::Reached { tick: self.now() })
             }
         }
@@ -108,50 +117,56 @@ impl Core {
 
     /// The answer to a whole command.
     fn line(&mut self, bytes: &[u8]) -> Result<Answer, OutOfMemory>
-        ensures ok { IfOk result (λ told. told ≡ said_answer self.old (command_of bytes.now)) }
-        ensures core { OnOk result (self.new ≡ said_after self.old (command_of bytes.now)) }
+        ensures ok { IfOk result (λ told. told ≡ said_answer self.old.settings (stands_of self.old.box) (command_of bytes.now)) }
+        ensures core { OnOk result (self.new ≡ kept_said_after self.old (command_of bytes.now)) }
         ensures err { OnErr result (self.new ≡ self.old) }
-        ensures memory { OnErr result (IsReply (said_answer self.old (command_of bytes.now))) }
+        ensures memory { OnErr result (IsReply (said_answer self.old.settings (stands_of self.old.box) (command_of bytes.now))) }
     {
         match parse(bytes) {
             Command::Query(target) => query(self, target),
             Command::Assign(target, value) => Ok(assign(self, target, value)),
+            Command::Table { target, .. } => {
+                Ok(Answer::Error(table_refusal(self.catalog(), target)))
+            }
             Command::Echo(text) => Ok(Answer::Reply(value_reply(self.alloc, text)?)),
             Command::Bad(refusal) => Ok(Answer::Error(refusal)),
         }
     }
 
     /// The ticks up to this one.
-    fn advance(&mut self, to: u64)
+    fn advance<L: Ledger>(&mut self, to: u64, steps: &mut Steps<L>)
         requires { to < 2 ^ 62 }
-        ensures { self.new ≡ advanced self.old to }
+        ensures agrees { (core : CoreState) → Agrees self.old core → Agrees self.new (advanced core to) }
+        ensures counts { steps.new ≡ steps.old + 35 * (to - self.old.box.tick) }
     {
         for _tick in self.now()..to {
-            self.step();
+            self.step(steps);
         }
     }
 
     /// One tick.
-    fn step(&mut self)
+    fn step<L: Ledger>(&mut self, steps: &mut Steps<L>)
         requires { self.old.box.tick + 1 < 2 ^ 62 }
-        ensures { self.new ≡ with_box self.old (tick self.old.rows self.old.box) }
+        ensures agrees { (core : CoreState) → Agrees self.old core →
+            Agrees self.new (with_box core (definition.tick core.rows core.box)) }
+        ensures tick { self.new.box.tick ≡ self.old.box.tick + 1 }
+        ensures counts { steps.new ≡ steps.old + 35 }
     {
-        let bits = bus(&self.values, &self.state.outputs);
-        self.state.outputs = next_outputs(&self.state.luts, &bits);
-        self.state.tick += 1;
+        tick(&mut self.state, steps);
         self.place = put_rows(
-            self.stimulus.rows(),
+            &self.stimulus,
             self.place,
             &mut self.values,
-            self.state.tick,
+            self.state.now(),
         );
+        put_values(&mut self.state, &self.values);
     }
 
     /// The slot takes a value. A value that is refused changes nothing.
     pub(crate) fn set(&mut self, slot: Slot, value: &[u8]) -> Answer
         requires { IsSlot slot }
-        ensures answer { result ≡ done (slot_assigned self.old value.now slot) }
-        ensures core { self.new ≡ left_by self.old (slot_assigned self.old value.now slot) }
+        ensures answer { result ≡ done (slot_given self.old.settings value.now slot) }
+        ensures core { self.new ≡ kept_left_by self.old (slot_given self.old.settings value.now slot) }
     {
         match self.config.assign(slot, value) {
             Ok(Some(change)) => {
@@ -165,20 +180,26 @@ impl Core {
 
     /// The level at this entry of the bit bus.
     pub(crate) fn level(&self, entry: u8) -> bool
-        ensures { result ≡ selected (bus_at self.now.rows self.now.box) entry }
+        ensures { result ≡ selected self.now.box.buses.bus entry }
     {
-        see(&bus(&self.values, &self.state.outputs), entry)
+        self.state.buses().selected(entry)
     }
 
-    /// The value at this entry of the position bus. The encoders come first, and the others are 0.
+    /// The value at this entry of the position bus.
     pub(crate) fn position(&self, entry: u8) -> i32
-        ensures { result ≡ position_at self.now.rows self.now.box entry }
+        ensures { result ≡ position self.now.box.buses.bus entry }
     {
-        if entry < inenc::INSTANCES {
-            self.values[(ttlin::INSTANCES + entry) as usize]
-        } else {
-            0
-        }
+        self.state.buses().selected_position(entry)
+    }
+
+    /// The number that a block reports.
+    pub(crate) fn read(&self, slot: Slot) -> u64
+        requires slot { IsSlot slot }
+        requires read { role_at slot ≡ Role.Read }
+        ensures value { result ≡ read_of self.now.box.blocks slot }
+        ensures small { result < 2 ^ 32 }
+    {
+        self.state.read(slot)
     }
 
     pub(crate) fn settings(&self) -> &Config

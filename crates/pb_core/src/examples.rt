@@ -8,16 +8,15 @@ ghost use Rattle.pb_core.specs.Examples.{line, told, inverter, toggle};
 pub fn input_is_seen_one_tick_later()
     ensures output_at_0 { told inverter 0 (codes "LUT1.OUT?\n") ≡ answers.Reply (codes "OK =0\n") }
     ensures output_at_1 { told inverter 1 (codes "LUT1.OUT?\n") ≡ answers.Reply (codes "OK =1\n") }
-    ensures input_at_9 { told inverter 9 (codes "TTLIN1.VAL?\n") ≡ answers.Reply (codes "OK =0\n") }
-    ensures input_at_10 { told inverter 10 (codes "TTLIN1.VAL?\n") ≡ answers.Reply (codes "OK =1\n") }
-    ensures output_at_10 { told inverter 10 (codes "LUT1.OUT?\n") ≡ answers.Reply (codes "OK =1\n") }
-    ensures output_at_11 { told inverter 11 (codes "LUT1.OUT?\n") ≡ answers.Reply (codes "OK =0\n") }
+    ensures input_at_2 { told inverter 2 (codes "TTLIN1.VAL?\n") ≡ answers.Reply (codes "OK =1\n") }
+    ensures output_at_2 { told inverter 2 (codes "LUT1.OUT?\n") ≡ answers.Reply (codes "OK =1\n") }
+    ensures output_at_3 { told inverter 3 (codes "LUT1.OUT?\n") ≡ answers.Reply (codes "OK =0\n") }
 {}
 
 /// A LUT that inverts its own output changes with each tick.
 pub fn lut_of_itself_toggles()
-    ensures at_9 { told toggle 9 (codes "LUT1.OUT?\n") ≡ answers.Reply (codes "OK =1\n") }
-    ensures at_10 { told toggle 10 (codes "LUT1.OUT?\n") ≡ answers.Reply (codes "OK =0\n") }
+    ensures at_1 { told toggle 1 (codes "LUT1.OUT?\n") ≡ answers.Reply (codes "OK =1\n") }
+    ensures at_2 { told toggle 2 (codes "LUT1.OUT?\n") ≡ answers.Reply (codes "OK =0\n") }
 {}
 
 /// A refused line leaves the core as it was.

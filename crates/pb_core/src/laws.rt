@@ -1,21 +1,21 @@
-ghost use Rattle.std.specs.Prelude.{◌≡◌, ◌≢◌, ◌++◌, ◌∷◌, [], ℕ, List, false, None, Ok, Err, codes};
+ghost use Rattle.std.specs.Prelude.{◌≡◌, ◌≢◌, ◌++◌, ℕ, List, false, None, Ok, Err, codes};
 ghost use Rattle.pb_words.specs.declared.Refusal.{Refusal};
 ghost use Rattle.pb_words.specs.declared.Refusal.TheVariants as refusals;
-ghost use Rattle.pb_lut.specs.Expressions.{Tree, ors, Inputs, value, number};
 ghost use Rattle.pb_fields.specs.declared.Slot.{Slot};
+ghost use Rattle.pb_model.specs.Tick.{Standing};
+ghost use Rattle.pb_config.specs.Settings.{Settings};
 ghost use Rattle.pb_config.specs.Assigning.{raw_given};
 ghost use Rattle.pb_config.specs.Reached.{IsReached};
 ghost use Rattle.pb_config.specs.Showing.{is_readable};
 ghost use Rattle.pb_replies.specs.Lists.{labels_at};
-ghost use Rattle.pb_core.specs.declared.boxes.LutSettings.{LutSettings};
 ghost use Rattle.pb_core.specs.declared.targets.Named.{Named};
 ghost use Rattle.pb_core.specs.declared.targets.Named.TheVariants as names;
 ghost use Rattle.pb_core.specs.declared.events.Answer.TheVariants as answers;
 ghost use Rattle.pb_core.specs.declared.events.Event.{Event};
 ghost use Rattle.pb_core.specs.declared.events.Event.TheVariants as events;
-ghost use Rattle.pb_core.specs.declared.stimuli.Row.{Row};
-ghost use Rattle.pb_core.specs.Tick.{lut_next};
+ghost use Rattle.pb_stim.specs.declared.Row.{Row};
 ghost use Rattle.pb_core.specs.Core.{CoreState, opening};
+ghost use Rattle.pb_core.specs.Muxes.{MuxesAreSet};
 ghost use Rattle.pb_core.specs.Naming.{named_by};
 ghost use Rattle.pb_core.specs.Queries.{query_reply};
 ghost use Rattle.pb_core.specs.Assignments.{assignment, takes_value};
@@ -33,31 +33,31 @@ pub fn only_done_lines_change_the_core()
 /// whether that can be asked for or set; and last whether the value fits.
 #[tactic(auto, unfolding(pb_config::specs::Assigning::raw_given))]
 pub fn refusals_come_in_order()
-    ensures target { (core : CoreState) (target value : List ℕ) (refusal : Refusal)
+    ensures target { (settings : Settings) (box : Standing) (target value : List ℕ) (refusal : Refusal)
         → named_by target ≡ Err refusal
-        → (query_reply core target ≡ Err refusal) × (assignment core target value ≡ Err refusal) }
-    ensures reading { (core : CoreState) (target : List ℕ) (slot : Slot)
+        → (query_reply settings box target ≡ Err refusal) × (assignment settings target value ≡ Err refusal) }
+    ensures reading { (settings : Settings) (box : Standing) (target : List ℕ) (slot : Slot)
         → named_by target ≡ Ok (names.Value slot) → is_readable slot ≡ false
-        → query_reply core target ≡ Err refusals.NotReadable }
-    ensures labels { (core : CoreState) (target : List ℕ) (slot : Slot)
+        → query_reply settings box target ≡ Err refusals.NotReadable }
+    ensures labels { (settings : Settings) (box : Standing) (target : List ℕ) (slot : Slot)
         → named_by target ≡ Ok (names.Labels slot) → labels_at slot ≡ None
-        → query_reply core target ≡ Err refusals.NotReadable }
-    ensures writing { (core : CoreState) (target value : List ℕ) (named : Named)
+        → query_reply settings box target ≡ Err refusals.NotReadable }
+    ensures writing { (settings : Settings) (target value : List ℕ) (named : Named)
         → named_by target ≡ Ok named → takes_value named ≡ false
-        → assignment core target value ≡ Err refusals.NotWriteable }
-    ensures value { (core : CoreState) (target value : List ℕ) (slot : Slot) (refusal : Refusal)
-        → named_by target ≡ Ok (names.Value slot) → raw_given core.settings slot value ≡ Err refusal
-        → assignment core target value ≡ Err refusal }
+        → assignment settings target value ≡ Err refusals.NotWriteable }
+    ensures value { (settings : Settings) (target value : List ℕ) (slot : Slot) (refusal : Refusal)
+        → named_by target ≡ Ok (names.Value slot) → raw_given settings slot value ≡ Err refusal
+        → assignment settings target value ≡ Err refusal }
 {}
 
 /// A target that begins with a star and is none of those that are known is no field, whether it is asked
 /// or set.
 pub fn unknown_star_targets_are_no_fields()
-    ensures { (core : CoreState) (name value : List ℕ)
+    ensures { (settings : Settings) (box : Standing) (name value : List ℕ)
         → name ≢ codes "IDN" → name ≢ codes "BLOCKS" → name ≢ codes "POSITIONS"
         → ((target : List ℕ) → name ≢ codes "ENUMS." ++ target)
-        → (query_reply core (codes "*" ++ name) ≡ Err refusals.NoSuchField)
-        × (assignment core (codes "*" ++ name) value ≡ Err refusals.NoSuchField) }
+        → (query_reply settings box (codes "*" ++ name) ≡ Err refusals.NoSuchField)
+        × (assignment settings (codes "*" ++ name) value ≡ Err refusals.NoSuchField) }
 {}
 
 /// In every core that events reach the settings are such as assignments reach, so the laws of pb_config
@@ -66,10 +66,8 @@ pub fn settings_are_reached()
     ensures { (rows : List Row) (happened : List Event) → IsReached (after_all (opening rows) happened).settings }
 {}
 
-/// A LUT whose function is the number of an expression puts out, one tick later, the expression's value
-/// at its inputs.
-#[tactic(auto, using(crate::proofs::LutLemmas::expression_next))]
-pub fn luts_follow_their_expressions()
-    ensures { (lut : LutSettings) (t : Tree ors) (x : Inputs) → lut.function ≡ number t
-        → lut_next lut (x.a ∷ x.b ∷ x.c ∷ x.d ∷ x.e ∷ []) ≡ value x t }
+/// In every core that events reach each bit input selects what the settings have, and is delayed as they
+/// have it.
+pub fn muxes_are_set()
+    ensures { (rows : List Row) (happened : List Event) → MuxesAreSet (after_all (opening rows) happened) }
 {}

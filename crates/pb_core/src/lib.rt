@@ -5,7 +5,6 @@
 #![tactic(auto)]
 
 mod assignments;
-mod boxes;
 mod cores;
 mod events;
 mod examples;
@@ -13,8 +12,6 @@ mod laws;
 mod meanings;
 mod placing;
 mod queries;
-mod steps;
-mod stimuli;
 mod targets;
 mod values;
 
@@ -24,7 +21,6 @@ pub use examples::{
     input_is_seen_one_tick_later, lut_of_itself_toggles, refused_lines_change_nothing,
 };
 pub use laws::{
-    luts_follow_their_expressions, only_done_lines_change_the_core, refusals_come_in_order,
-    settings_are_reached, unknown_star_targets_are_no_fields,
+    muxes_are_set, only_done_lines_change_the_core, refusals_come_in_order, settings_are_reached,
+    unknown_star_targets_are_no_fields,
 };
-pub use stimuli::{Row, Stimulus};

@@ -1,5 +1,6 @@
 ghost use Rattle.std.specs.Prelude.{◌≡◌, IfOk, OnErr};
 ghost use Rattle.pb_fields.specs.Slots.{IsSlot};
+ghost use Rattle.pb_model.specs.Kept.{stands_of};
 ghost use Rattle.pb_core.specs.Queries.{query_reply, named_reply, labels_or_refused};
 ghost use Rattle.pb_core.specs.Answer.{replied, IsReply};
 ghost use Rattle.pb_core.specs.Helpers.{IsThere};
@@ -18,8 +19,8 @@ use pb_words::{OutOfMemory, Refusal};
 
 /// The answer to the query of a target.
 pub(crate) fn query(core: &Core, target: &[u8]) -> Result<Answer, OutOfMemory>
-    ensures ok { IfOk result (λ told. told ≡ replied (query_reply core.now target.now)) }
-    ensures memory { OnErr result (IsReply (replied (query_reply core.now target.now))) }
+    ensures ok { IfOk result (λ told. told ≡ replied (query_reply core.now.settings (stands_of core.now.box) target.now)) }
+    ensures memory { OnErr result (IsReply (replied (query_reply core.now.settings (stands_of core.now.box) target.now))) }
 {
     match named_by(core.catalog(), target) {
         Ok(named) => named_answer(core, named),
@@ -30,8 +31,8 @@ pub(crate) fn query(core: &Core, target: &[u8]) -> Result<Answer, OutOfMemory>
 /// The answer to the query of what is named.
 fn named_answer(core: &Core, named: Named) -> Result<Answer, OutOfMemory>
     requires { IsThere named }
-    ensures ok { IfOk result (λ told. told ≡ replied (named_reply core.now named)) }
-    ensures memory { OnErr result (IsReply (replied (named_reply core.now named))) }
+    ensures ok { IfOk result (λ told. told ≡ replied (named_reply core.now.settings (stands_of core.now.box) named)) }
+    ensures memory { OnErr result (IsReply (replied (named_reply core.now.settings (stands_of core.now.box) named))) }
 {
     match named {
         Named::Identity => Ok(Answer::Reply(value_reply(core.alloc(), b"panda_sim 1.0")?)),

@@ -4,8 +4,9 @@ ghost use Rattle.pb_config.specs.Settings.{field_slot};
 ghost use Rattle.pb_config.specs.Showing.{is_line, scaled_shown};
 ghost use Rattle.pb_fields.specs.Values.{IsRaw, IsShownKind, shown};
 ghost use Rattle.pb_replies.specs.Replies.{value_reply};
+ghost use Rattle.pb_model.specs.Kept.{stands_of};
 ghost use Rattle.pb_core.specs.Queries.{slot_reply, position_of};
-ghost use Rattle.pb_core.specs.Helpers.{is_reported};
+ghost use Rattle.pb_core.specs.Helpers.{is_label};
 ghost use Rattle.pb_core.specs.Answer.{replied, IsReply};
 
 use crate::cores::Core;
@@ -25,8 +26,8 @@ const ROOM: usize = 128;
 /// The answer to the query of a field or an attribute.
 pub(crate) fn slot_answer(core: &Core, slot: Slot) -> Result<Answer, OutOfMemory>
     requires { IsSlot slot }
-    ensures ok { IfOk result (λ told. told ≡ replied (slot_reply core.now slot)) }
-    ensures memory { OnErr result (IsReply (replied (slot_reply core.now slot))) }
+    ensures ok { IfOk result (λ told. told ≡ replied (slot_reply core.now.settings (stands_of core.now.box) slot)) }
+    ensures memory { OnErr result (IsReply (replied (slot_reply core.now.settings (stands_of core.now.box) slot))) }
 {
     match attribute(slot) {
         None => field_answer(core, slot),
@@ -34,15 +35,16 @@ pub(crate) fn slot_answer(core: &Core, slot: Slot) -> Result<Answer, OutOfMemory
     }
 }
 
-/// The answer to the query of a field. What a block reports is 0 yet, and a table is empty.
+/// The answer to the query of a field. A label that a block reports is its first yet, and a table is empty.
 fn field_answer(core: &Core, slot: Slot) -> Result<Answer, OutOfMemory>
     requires slot { IsSlot slot }
     requires field { attribute_at slot ≡ None }
-    ensures ok { IfOk result (λ told. told ≡ replied (slot_reply core.now slot)) }
-    ensures memory { OnErr result (IsReply (replied (slot_reply core.now slot))) }
+    ensures ok { IfOk result (λ told. told ≡ replied (slot_reply core.now.settings (stands_of core.now.box) slot)) }
+    ensures memory { OnErr result (IsReply (replied (slot_reply core.now.settings (stands_of core.now.box) slot))) }
 {
     match field_type(slot) {
-        FieldType::ReadUint | FieldType::ReadEnum { .. } => zero_answer(core, slot),
+        FieldType::ReadUint => read_answer(core, slot),
+        FieldType::ReadEnum { .. } => first_answer(core, slot),
         FieldType::BitOut => level_answer(core, slot),
         FieldType::PosOut => position_answer(core, slot),
         FieldType::Table => Ok(Answer::Reply(empty_reply(core.alloc())?)),
@@ -55,8 +57,8 @@ fn field_answer(core: &Core, slot: Slot) -> Result<Answer, OutOfMemory>
 fn attribute_answer(core: &Core, slot: Slot, attribute: Attribute) -> Result<Answer, OutOfMemory>
     requires slot { IsSlot slot }
     requires which { attribute_at slot ≡ Some attribute }
-    ensures ok { IfOk result (λ told. told ≡ replied (slot_reply core.now slot)) }
-    ensures memory { OnErr result (IsReply (replied (slot_reply core.now slot))) }
+    ensures ok { IfOk result (λ told. told ≡ replied (slot_reply core.now.settings (stands_of core.now.box) slot)) }
+    ensures memory { OnErr result (IsReply (replied (slot_reply core.now.settings (stands_of core.now.box) slot))) }
 {
     match attribute {
         Attribute::Labels => Ok(Answer::Reply(labels_reply(core.alloc(), field_slot(slot))?)),
@@ -73,8 +75,8 @@ fn attribute_answer(core: &Core, slot: Slot, attribute: Attribute) -> Result<Ans
 fn setting_answer(core: &Core, slot: Slot) -> Result<Answer, OutOfMemory>
     requires slot { IsSlot slot }
     requires line { is_line slot ≡ true }
-    ensures ok { IfOk result (λ told. told ≡ replied (slot_reply core.now slot)) }
-    ensures memory { OnErr result (IsReply (replied (slot_reply core.now slot))) }
+    ensures ok { IfOk result (λ told. told ≡ replied (slot_reply core.now.settings (stands_of core.now.box) slot)) }
+    ensures memory { OnErr result (IsReply (replied (slot_reply core.now.settings (stands_of core.now.box) slot))) }
 {
     let mut out = [0; ROOM];
     match core.settings().show(slot, &mut out) {
@@ -83,14 +85,26 @@ fn setting_answer(core: &Core, slot: Slot) -> Result<Answer, OutOfMemory>
     }
 }
 
-/// What a block reports, which is 0 yet.
-#[tactic(auto, using(crate::proofs::FieldLemmas::zero_within, crate::proofs::FieldLemmas::reported_shown))]
-fn zero_answer(core: &Core, slot: Slot) -> Result<Answer, OutOfMemory>
+/// The number that a block reports.
+#[tactic(auto, using(crate::proofs::FieldLemmas::number_read, crate::proofs::FieldLemmas::number_within))]
+fn read_answer(core: &Core, slot: Slot) -> Result<Answer, OutOfMemory>
     requires slot { IsSlot slot }
     requires field { attribute_at slot ≡ None }
-    requires reported { is_reported (type_at slot) ≡ true }
-    ensures ok { IfOk result (λ told. told ≡ replied (slot_reply core.now slot)) }
-    ensures memory { OnErr result (IsReply (replied (slot_reply core.now slot))) }
+    requires number { type_at slot ≡ FieldType.ReadUint }
+    ensures ok { IfOk result (λ told. told ≡ replied (slot_reply core.now.settings (stands_of core.now.box) slot)) }
+    ensures memory { OnErr result (IsReply (replied (slot_reply core.now.settings (stands_of core.now.box) slot))) }
+{
+    raw_answer(core, kind(slot), core.read(slot))
+}
+
+/// The label that a block reports, which is its first yet.
+#[tactic(auto, using(crate::proofs::FieldLemmas::first_within, crate::proofs::FieldLemmas::label_shown))]
+fn first_answer(core: &Core, slot: Slot) -> Result<Answer, OutOfMemory>
+    requires slot { IsSlot slot }
+    requires field { attribute_at slot ≡ None }
+    requires label { is_label (type_at slot) ≡ true }
+    ensures ok { IfOk result (λ told. told ≡ replied (slot_reply core.now.settings (stands_of core.now.box) slot)) }
+    ensures memory { OnErr result (IsReply (replied (slot_reply core.now.settings (stands_of core.now.box) slot))) }
 {
     raw_answer(core, kind(slot), 0)
 }
@@ -100,8 +114,8 @@ fn level_answer(core: &Core, slot: Slot) -> Result<Answer, OutOfMemory>
     requires slot { IsSlot slot }
     requires field { attribute_at slot ≡ None }
     requires output { type_at slot ≡ FieldType.BitOut }
-    ensures ok { IfOk result (λ told. told ≡ replied (slot_reply core.now slot)) }
-    ensures memory { OnErr result (IsReply (replied (slot_reply core.now slot))) }
+    ensures ok { IfOk result (λ told. told ≡ replied (slot_reply core.now.settings (stands_of core.now.box) slot)) }
+    ensures memory { OnErr result (IsReply (replied (slot_reply core.now.settings (stands_of core.now.box) slot))) }
 {
     raw_answer(core, kind(slot), bit_raw(core.level(output_entry(slot))))
 }
@@ -111,8 +125,8 @@ fn position_answer(core: &Core, slot: Slot) -> Result<Answer, OutOfMemory>
     requires slot { IsSlot slot }
     requires field { attribute_at slot ≡ None }
     requires output { type_at slot ≡ FieldType.PosOut }
-    ensures ok { IfOk result (λ told. told ≡ replied (slot_reply core.now slot)) }
-    ensures memory { OnErr result (IsReply (replied (slot_reply core.now slot))) }
+    ensures ok { IfOk result (λ told. told ≡ replied (slot_reply core.now.settings (stands_of core.now.box) slot)) }
+    ensures memory { OnErr result (IsReply (replied (slot_reply core.now.settings (stands_of core.now.box) slot))) }
 {
     raw_answer(core, kind(slot), int_raw(position(core, slot)))
 }
@@ -132,8 +146,8 @@ fn raw_answer(core: &Core, kind: FieldKind, raw: u64) -> Result<Answer, OutOfMem
 fn scaled_answer(core: &Core, slot: Slot) -> Result<Answer, OutOfMemory>
     requires slot { IsSlot slot }
     requires which { attribute_at slot ≡ Some Attribute.Scaled }
-    ensures ok { IfOk result (λ told. told ≡ replied (slot_reply core.now slot)) }
-    ensures memory { OnErr result (IsReply (replied (slot_reply core.now slot))) }
+    ensures ok { IfOk result (λ told. told ≡ replied (slot_reply core.now.settings (stands_of core.now.box) slot)) }
+    ensures memory { OnErr result (IsReply (replied (slot_reply core.now.settings (stands_of core.now.box) slot))) }
 {
     scaled_number_answer(core, slot, position(core, slot))
 }
@@ -152,7 +166,7 @@ fn scaled_number_answer(core: &Core, slot: Slot, value: i32) -> Result<Answer, O
 /// The value of the position that the slot's field is.
 fn position(core: &Core, slot: Slot) -> i32
     requires { IsSlot slot }
-    ensures { result ≡ position_of core.now slot }
+    ensures { result ≡ position_of (stands_of core.now.box) slot }
 {
     core.position(output_entry(slot).saturating_sub(position_bus::FIRST))
 }

@@ -5,3 +5,9 @@ pub mod Lines
 pub mod TargetBytes
 pub mod Sayings
 pub mod Meanings
+pub mod TableTexts
+pub mod Openings
+pub mod TableLemmas
+pub mod ScanLemmas
+pub mod StreamLemmas
+pub mod StageLemmas

@@ -7,7 +7,7 @@ use Rattle.std.proofs.lemmas.Bool.Decides.{nat_tests}
 use Rattle.std.proofs.lemmas.List.{nil_from_length}
 use Rattle.std.proofs.Math.Seq.{take-append_seam, drop-append_seam}
 use Rattle.pb_words.specs.declared.refusals.Refusal.TheVariants as refusals
-use Rattle.pb_grammar.specs.Grammar.{Said, Query, Assign, Echo, Bad, Says, after_front, before_end, is_target, is_deciding, echo_in, malformed, decided, decided_at, plainly_said}
+use Rattle.pb_grammar.specs.Grammar.{Said, Query, Assign, Table, Echo, Bad, Says, after_front, before_end, is_target, is_deciding, echo_in, malformed, decided, decided_at, plainly_said}
 use Rattle.pb_grammar.proofs.Fronts.{Follows, after_front_follows, after_front_of, Precedes, before_end_precedes, before_end_of}
 use Rattle.pb_grammar.proofs.TargetCuts.{target_iff}
 use Rattle.pb_grammar.proofs.TargetBytes.{is_target_byte, AreTargetBytes, target_bytes}
@@ -76,7 +76,7 @@ first-after p (x ∷ xs) y ys h e =
     ∙ ap (λ n. 1 + n) (first-after p xs y ys parts.1 e)
     ∙ omega arith
 
-position-after : {X : Type 0} (p : X → Bool) (xs : List X) (y : X) (ys : List X) → list_all (λ x. not (p x)) xs ≡ true → p y ≡ true → position p (xs ++ y ∷ ys) ≡ Some (length xs)
+pub position-after : {X : Type 0} (p : X → Bool) (xs : List X) (y : X) (ys : List X) → list_all (λ x. not (p x)) xs ≡ true → p y ≡ true → position p (xs ++ y ∷ ys) ≡ Some (length xs)
 position-after {X} p xs y ys h e =
     let all : List X = xs ++ y ∷ ys in
     let within : length xs < length all = omega (arith, length-append xs (y ∷ ys)) in
@@ -144,4 +144,5 @@ says_saying text (Assign target value) h =
     ap saying (h.1 ∙ append_assoc target (codes "=") value) ∙ saying_decided target 61 value is refl
     ∙ ap (λ t. cond (not t) malformed (Assign target value)) is
 says_saying text (Echo words) h = ap saying h ∙ saying_echo words
+says_saying text (Table target append base64 body) h = absurd h
 says_saying text (Bad refusal) h = absurd h

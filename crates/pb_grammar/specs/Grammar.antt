@@ -1,11 +1,12 @@
 -- The control grammar: which bytes are which command.
-use Rattle.std.specs.Prelude.{◌≡◌, ◌≢◌, ℕ, ◌-◌, ◌≤◌, ◌<◌, ◌==◌, ◌&&◌, ◌||◌, nat_eq, nat_le, nat_lt, not, Bool, true, false, List, [], ◌∷◌, ◌++◌, length, take, drop, position, All, Option, Some, None, codes, if◌then◌else◌}
-use Rattle.std.specs.List.{list_all, slice_split}
+use Rattle.std.specs.Prelude.{◌≡◌, ◌≢◌, ℕ, ◌+◌, ◌-◌, ◌≤◌, ◌<◌, ◌==◌, ◌&&◌, ◌||◌, ◌⊎◌, nat_eq, nat_le, nat_lt, not, Bool, true, false, List, [], ◌∷◌, ◌++◌, length, take, drop, position, All, Option, Some, None, codes, if◌then◌else◌}
+use Rattle.std.specs.List.{list_all, slice_split, flat_map}
 use Rattle.std.specs.Cmp.Lexicographic.{pointwise}
 use Rattle.std.specs.Option.{option_map, option_map_or, option_and_then}
 use Rattle.pb_words.specs.declared.refusals.Refusal.{Refusal}
 use Rattle.pb_words.specs.declared.refusals.Refusal.TheVariants as refusals
 use Rattle.pb_grammar.specs.Targets.{IsTargetText, is_name}
+use Rattle.pb_grammar.specs.declared.tables.OpeningLine.{OpeningLine}
 use Rattle.pb_grammar.specs.declared.commands.Command.{Command}
 use Rattle.pb_grammar.specs.declared.commands.Command.TheVariants as commands
 
@@ -33,6 +34,7 @@ before_end end text =
 pub data Said : Type 0 where
   Query : (target : List ℕ) → Said
   Assign : (target : List ℕ) (value : List ℕ) → Said
+  Table : (target : List ℕ) (append base64 : Bool) (body : List ℕ) → Said
   Echo : (text : List ℕ) → Said
   Bad : (refusal : Refusal) → Said
 
@@ -49,6 +51,8 @@ pub record IsSound (text : List ℕ) : Type 0 where
   pub short : length text ≤ longest
   pub printable : list_all is_printable text ≡ true
 
+-- Lines.
+
 -- What the text of a line says, where it says anything.
 abbrev pub Says : List ℕ → Said → Type 0
 -- `LUT1.FUNC?`
@@ -57,13 +61,14 @@ Says text (Query target) = IsTargetText target × (text ≡ target ++ codes "?")
 Says text (Assign target value) = IsTargetText target × (text ≡ target ++ codes "=" ++ value)
 -- `*ECHO Is anybody there?`
 Says text (Echo words) = text ≡ codes "*ECHO " ++ words ++ codes "?"
+Says text (Table target append base64 body) = ⊥
 Says text (Bad refusal) = ⊥
 
 -- the bytes are a line with this text
 abbrev pub IsLine : List ℕ → List ℕ → Type 0
 IsLine bytes text = IsText text × (bytes ≡ text ++ 10 ∷ [])
 
--- Why the bytes are no command.
+-- Why the bytes of a line are no command.
 abbrev pub IsBad : List ℕ → Refusal → Type 0
 IsBad bytes refusals.LineTooLong = (text : List ℕ) × IsLine bytes text × (longest < length text)
 IsBad bytes refusals.NotPrintable =
@@ -77,10 +82,99 @@ IsBad bytes _ = ⊥
 abbrev pub IsSaid : List ℕ → Said → Type 0
 IsSaid bytes said = (text : List ℕ) × IsLine bytes text × IsSound text × Says text said
 
--- The bytes of one command, its newline included, and what it says.
+-- The bytes of a line, its newline included, and what it says; other bytes are malformed.
+abbrev pub IsLineCommand : List ℕ → Said → Type 0
+IsLineCommand bytes (Bad refusal) = IsBad bytes refusal
+IsLineCommand bytes said = IsSaid bytes said
+
+-- `?`, `=` and `<` decide what a line is
+abbrev pub is_deciding : ℕ → Bool
+is_deciding b = b == 63 || b == 61 || b == 60
+
+-- Table writes: a line that opens a body, the body, and an empty line.
+
+-- what the first line of a table write says; whether the target is one doesn't matter yet
+pub record Opening : Type 0 where
+  pub target : List ℕ
+  pub append : Bool
+  pub base64 : Bool
+
+-- what stands behind the target
+abbrev pub sign_of : Bool → Bool → List ℕ
+sign_of false false = codes "<"
+sign_of true false = codes "<<"
+sign_of false true = codes "<B"
+sign_of true true = codes "<<B"
+
+abbrev pub opening_text : Opening → List ℕ
+opening_text opening = opening.target ++ sign_of opening.append opening.base64
+
+-- the line opens a body: its first deciding byte is `<`, and behind it stands what may
+pub record Opens (text : List ℕ) (opening : Opening) : Type 0 where
+  pub sound : IsSound text
+  pub undecided : list_all (λ b. not (is_deciding b)) opening.target ≡ true
+  pub printed : text ≡ opening_text opening
+
+-- a line of a body isn't empty
+pub record IsBodyLine (line : List ℕ) : Type 0 where
+  pub text : IsText line
+  pub some : 0 < length line
+
+-- the bytes of a body: its lines, each with its newline
+abbrev pub body_text : List (List ℕ) → List ℕ
+body_text lines = flat_map (λ line. line ++ 10 ∷ []) lines
+
+-- the bytes are a table write of these lines
+pub record IsTable (bytes : List ℕ) (opening : Opening) (lines : List (List ℕ)) : Type 0 where
+  pub opens : Opens (opening_text opening) opening
+  pub body : All IsBodyLine lines
+  pub printed : bytes ≡ opening_text opening ++ 10 ∷ (body_text lines ++ 10 ∷ [])
+
+-- the greatest number of bytes of a body, newlines counted
+abbrev pub longest_body : ℕ
+longest_body = 262144
+
+-- why a line of a body is refused, where the body has so many bytes before it
+abbrev pub line_fault : ℕ → List ℕ → Option Refusal
+line_fault before line =
+    if nat_lt longest (length line) then Some refusals.LineTooLong
+    else (if not (list_all is_printable line) then Some refusals.NotPrintable
+    else (if nat_lt longest_body (before + length line + 1) then Some refusals.TableTooLong else None))
+
+-- the one, or else the other
+abbrev pub first_of : Option Refusal → Option Refusal → Option Refusal
+first_of (Some refusal) other = Some refusal
+first_of None other = other
+
+-- the first bad line of a body decides
+abbrev pub body_fault : ℕ → List (List ℕ) → Option Refusal
+body_fault before [] = None
+body_fault before (line ∷ lines) = first_of (line_fault before line) (body_fault (before + length line + 1) lines)
+
+-- nothing that is known
+abbrev pub malformed : Said
+malformed = Bad refusals.MalformedCommand
+
+-- what a body without a fault, or with one, says of its target
+abbrev pub written : Opening → List (List ℕ) → Option Refusal → Said
+written opening lines None = Table opening.target opening.append opening.base64 (body_text lines)
+written opening lines (Some refusal) = Bad refusal
+
+-- The bytes are a table write, and this is what it says: the target decides before the body.
+pub record IsTableCommand (bytes : List ℕ) (said : Said) : Type 0 where
+  pub opening : Opening
+  pub lines : List (List ℕ)
+  pub table : IsTable bytes opening lines
+  pub known : IsTargetText opening.target → said ≡ written opening lines (body_fault 0 lines)
+  pub unknown : ¬ (IsTargetText opening.target) → said ≡ malformed
+
+-- no table write has these bytes
+abbrev pub IsNoTable : List ℕ → Type 0
+IsNoTable bytes = (opening : Opening) (lines : List (List ℕ)) → ¬ (IsTable bytes opening lines)
+
+-- The bytes of one command, its last newline included, and what it says. Bytes that are no whole command are malformed.
 abbrev pub IsCommand : List ℕ → Said → Type 0
-IsCommand bytes (Bad refusal) = IsBad bytes refusal
-IsCommand bytes said = IsSaid bytes said
+IsCommand bytes said = IsTableCommand bytes said ⊎ IsNoTable bytes × IsLineCommand bytes said
 
 -- The same, computed.
 
@@ -124,17 +218,9 @@ line_text (b ∷ bs) =
     then (if length bs == 0 then Some [] else None)
     else option_map (λ text. b ∷ text) (line_text bs)
 
--- `?`, `=` and `<` decide what a line is
-abbrev pub is_deciding : ℕ → Bool
-is_deciding b = b == 63 || b == 61 || b == 60
-
 -- what the echo query asks to be said again
 abbrev pub echo_in : List ℕ → Option (List ℕ)
 echo_in text = option_and_then (before_end (codes "?")) (after_front (codes "*ECHO ") text)
-
--- nothing that is known
-abbrev pub malformed : Said
-malformed = Bad refusals.MalformedCommand
 
 -- what a target says with the deciding byte behind it, and what follows that
 abbrev pub decided : List ℕ → ℕ → List ℕ → Said
@@ -160,13 +246,72 @@ said_in text =
     else (if not (list_all is_printable text) then Bad refusals.NotPrintable
     else option_map_or (λ words. Echo words) (echo_in text) (plainly_said text))
 
+-- the opening with this target, where what stands behind it may
+abbrev pub opening_at : List ℕ → List ℕ → Option Opening
+opening_at target behind =
+    if pointwise nat_eq behind (codes "<") then Some (record { target = target; append = false; base64 = false })
+    else (if pointwise nat_eq behind (codes "<<") then Some (record { target = target; append = true; base64 = false })
+    else (if pointwise nat_eq behind (codes "<B") then Some (record { target = target; append = false; base64 = true })
+    else (if pointwise nat_eq behind (codes "<<B") then Some (record { target = target; append = true; base64 = true })
+    else None)))
+
+-- whether the text can be that of a line
+abbrev pub is_sound : List ℕ → Bool
+is_sound text = nat_le (length text) longest && list_all is_printable text
+
+-- the opening that the text of a line is
+unfoldable pub opening_in : List ℕ → Option Opening
+opening_in text =
+    if is_sound text
+    then option_and_then (λ place. opening_at (take place text) (drop place text)) (position is_deciding text)
+    else None
+
+-- what an opening and the lines of its body say
+abbrev pub table_said : Opening → List (List ℕ) → Said
+table_said opening lines = if is_target opening.target then written opening lines (body_fault 0 lines) else malformed
+
+-- these are the two empty pieces behind the last newlines
+abbrev pub is_end : List (List ℕ) → Bool
+is_end [] = false
+is_end (piece ∷ more) = length piece == 0 && length more == 0
+
+-- the lines of a body, where an empty line follows them and nothing else
+abbrev pub body_of : List (List ℕ) → Option (List (List ℕ))
+body_of [] = None
+body_of (line ∷ more) =
+    if length line == 0
+    then (if is_end more then Some [] else None)
+    else option_map (λ lines. line ∷ lines) (body_of more)
+
+-- what stands between the newlines
+abbrev pub rows : List ℕ → List (List ℕ)
+rows bytes = slice_split (λ b. b == 10) bytes
+
+-- what an opening says with what stands behind its newline
+abbrev pub with_body : Opening → List ℕ → Said
+with_body opening behind = option_map_or (table_said opening) (body_of (rows behind)) malformed
+
+-- what a first line says with what stands behind its newline
+abbrev pub opened : List ℕ → List ℕ → Said
+opened first behind = option_map_or (λ opening. with_body opening behind) (opening_in first) malformed
+
+-- what the bytes of a table write say
+unfoldable pub table_in : List ℕ → Said
+table_in bytes =
+    option_map_or (λ place. opened (take place bytes) (drop (place + 1) bytes)) (position (λ b. b == 10) bytes) malformed
+
 -- what the bytes of a command say
 unfoldable pub command_of : List ℕ → Said
-command_of bytes = option_map_or said_in (line_text bytes) malformed
+command_of bytes = option_map_or said_in (line_text bytes) (table_in bytes)
 
 -- what a command that was read says
 abbrev pub said_of : Command → Said
 said_of (commands.Query target) = Query target.now
 said_of (commands.Assign target value) = Assign target.now value.now
+said_of (commands.Table target append base64 body) = Table target.now append base64 body.now
 said_of (commands.Echo text) = Echo text.now
 said_of (commands.Bad refusal) = Bad refusal
+
+-- what an opening that was read says
+abbrev pub opening_of : OpeningLine → Opening
+opening_of line = record { target = line.target.now; append = line.append; base64 = line.base64 }

@@ -1,2 +1,4 @@
 pub mod Targets
 pub mod Grammar
+pub mod Streams
+pub mod Feeding

@@ -1,9 +1,10 @@
-ghost use Rattle.std.specs.Prelude.{◌≡◌, ℕ, ◌<◌, List, [], ◌∷◌, ◌++◌, length, take, drop, position, codes, IfSome, IsTrue, ◌↔◌};
-ghost use Rattle.std.specs.List.{list_all};
+ghost use Rattle.std.specs.Prelude.{◌≡◌, ◌==◌, ℕ, ◌<◌, List, [], ◌∷◌, ◌++◌, false, true, length, take, drop, position, codes, IfSome, IsTrue, ◌↔◌};
 ghost use Rattle.std.specs.Option.{option_copied};
-ghost use Rattle.pb_grammar.specs.Grammar.{Said, Query, Assign, Echo, Bad, IsCommand, IsText, is_deciding, is_printable, echo_in, decided_at, plainly_said, said_in, command_of, line_text, said_of};
+ghost use Rattle.pb_grammar.specs.Grammar.{Said, Query, Assign, Table, Echo, Bad, IsCommand, IsText, is_deciding, echo_in, table_in, opened, with_body, opening_of, decided_at, plainly_said, said_in, command_of, line_text, said_of};
 ghost use Rattle.pb_words.specs.declared.refusals.Refusal.TheVariants as refusals;
 
+use crate::scanning::LONGEST;
+use crate::tables::{OpeningLine, is_printable, opening_in, scan_of};
 use crate::targets::is_target;
 use pb_words::Refusal;
 
@@ -14,24 +15,85 @@ pub enum Command<'a> {
     Query(&'a [u8]),
     /// This target is to have this value.
     Assign(&'a [u8], &'a [u8]),
+    /// The table of this target is to have the words of this body, alone or behind those that it has.
+    Table {
+        target: &'a [u8],
+        append: bool,
+        base64: bool,
+        body: &'a [u8],
+    },
     /// This text again.
     Echo(&'a [u8]),
     /// No command, for this reason.
     Bad(Refusal),
 }
 
-/// The most bytes of a line before its newline.
-const LONGEST: usize = 4096;
-
-/// What these bytes of one command ask, its newline included. Bytes that are no line are malformed.
+/// What these bytes of one command ask, its last newline included. Bytes that aren't one whole command are malformed.
 #[tactic(auto, unfolding(crate::specs::Grammar::command_of))]
 pub fn parse(bytes: &[u8]) -> Command<'_>
     ensures { said_of result ≡ command_of bytes.now }
 {
     match line_in(bytes) {
         Some(text) => command_in(text),
+        None => table_in(bytes),
+    }
+}
+
+/// What the bytes of a table write ask: a line that opens a body, the body, and an empty line.
+#[tactic(auto, unfolding(crate::specs::Grammar::table_in))]
+fn table_in(bytes: &[u8]) -> Command<'_>
+    ensures { said_of result ≡ table_in bytes.now }
+{
+    match newline_place(bytes) {
+        Some(place) => opened(&bytes[..place], &bytes[place + 1..]),
         None => Command::Bad(Refusal::MalformedCommand),
     }
+}
+
+/// The place of the first newline.
+fn newline_place(bytes: &[u8]) -> Option<usize>
+    ensures place { result ≡ position (λ b. b == 10) bytes.now }
+    ensures within { IfSome result (λ place. place < length bytes.now) }
+{
+    bytes.iter().position(|b| *b == b'\n')
+}
+
+/// What a first line says with what stands behind its newline.
+fn opened<'a>(first: &'a [u8], behind: &'a [u8]) -> Command<'a>
+    ensures { said_of result ≡ opened first.now behind.now }
+{
+    match opening_in(first) {
+        Some(opening) => with_body(opening, behind),
+        None => Command::Bad(Refusal::MalformedCommand),
+    }
+}
+
+/// What an opening says with what stands behind its line.
+fn with_body<'a>(opening: OpeningLine<'a>, behind: &'a [u8]) -> Command<'a>
+    ensures { said_of result ≡ with_body (opening_of opening.entry) behind.now }
+{
+    let Some(scan) = scan_of(behind) else {
+        return Command::Bad(Refusal::MalformedCommand);
+    };
+    if !is_target(opening.target) {
+        return Command::Bad(Refusal::MalformedCommand);
+    }
+    match scan.fault {
+        Some(refusal) => Command::Bad(refusal),
+        None => Command::Table {
+            target: opening.target,
+            append: opening.append,
+            base64: opening.base64,
+            body: without_last(behind),
+        },
+    }
+}
+
+/// All bytes but the last.
+fn without_last(bytes: &[u8]) -> &[u8]
+    ensures { (front : List ℕ) → bytes.now ≡ front ++ 10 ∷ [] → result.now ≡ front }
+{
+    bytes.strip_suffix(b"\n".as_slice()).unwrap_or(bytes)
 }
 
 /// The text before the newline, where that is the last byte and the only newline.
@@ -53,7 +115,7 @@ fn is_text(text: &[u8]) -> bool
 
 /// What the text of a line asks.
 #[tactic(auto, unfolding(crate::specs::Grammar::said_in))]
-fn command_in(text: &[u8]) -> Command<'_>
+pub(crate) fn command_in(text: &[u8]) -> Command<'_>
     ensures { said_of result ≡ said_in text.now }
 {
     if text.len() > LONGEST {
@@ -66,12 +128,6 @@ fn command_in(text: &[u8]) -> Command<'_>
         Some(words) => Command::Echo(words),
         None => plain_command(text),
     }
-}
-
-fn is_printable(text: &[u8]) -> bool
-    ensures { result ≡ list_all is_printable text.now }
-{
-    text.iter().all(|b| b' ' <= *b && *b <= b'~')
 }
 
 /// What the echo query asks to be said again.
@@ -93,7 +149,7 @@ fn plain_command(text: &[u8]) -> Command<'_>
 }
 
 /// The place of the first byte that decides what the line is.
-fn deciding_place(text: &[u8]) -> Option<usize>
+pub(crate) fn deciding_place(text: &[u8]) -> Option<usize>
     ensures place { result ≡ position is_deciding text.now }
     ensures within { IfSome result (λ place. place < length text.now) }
 {
@@ -121,7 +177,6 @@ pub fn commands_have_one_meaning()
 {}
 
 /// Commands and what they say, worked by hand.
-#[tactic(auto, unfolding(crate::specs::Grammar::command_of, crate::specs::Grammar::said_in, crate::specs::Grammar::is_target, crate::specs::Grammar::names_in))]
 pub fn commands_by_example()
     ensures function { command_of (codes "LUT1.FUNC=0x0000FFFF\n") ≡ Assign (codes "LUT1.FUNC") (codes "0x0000FFFF") }
     ensures spaces { command_of (codes "LUT1.FUNC= ~A & B\n") ≡ Assign (codes "LUT1.FUNC") (codes " ~A & B") }
@@ -142,6 +197,13 @@ pub fn commands_by_example()
     ensures behind { command_of (codes "LUT1.OUT?x\n") ≡ Bad refusals.MalformedCommand }
     ensures table { command_of (codes "SEQ1.TABLE<\n") ≡ Bad refusals.MalformedCommand }
     ensures question { command_of (codes "LUT1.FUNC=x?\n") ≡ Assign (codes "LUT1.FUNC") (codes "x?") }
+    ensures numbers { command_of (codes "SEQ1.TABLE<\n1 2\n\n") ≡ Table (codes "SEQ1.TABLE") false false (codes "1 2\n") }
+    ensures letters { command_of (codes "SEQ1.TABLE<<B\nAQAA\nAA==\n\n") ≡ Table (codes "SEQ1.TABLE") true true (codes "AQAA\nAA==\n") }
+    ensures no_lines { command_of (codes "SEQ1.TABLE<B\n\n") ≡ Table (codes "SEQ1.TABLE") false true [] }
+    ensures no_target { command_of (codes "*ECHO a<\n\n") ≡ Bad refusals.MalformedCommand }
+    ensures target_first { command_of (codes "SEQ1<\n\t\n\n") ≡ Bad refusals.MalformedCommand }
+    ensures bad_line { command_of (codes "SEQ1.TABLE<\n1\n\t\n\n") ≡ Bad refusals.NotPrintable }
+    ensures behind_body { command_of (codes "SEQ1.TABLE<\n\n\n") ≡ Bad refusals.MalformedCommand }
     ensures second_sign { command_of (codes "LUT1.FUNC=A=B\n") ≡ Assign (codes "LUT1.FUNC") (codes "A=B") }
     ensures no_value { command_of (codes "LUT1.FUNC=\n") ≡ Assign (codes "LUT1.FUNC") [] }
 {}

@@ -1,4 +1,4 @@
-ghost use Rattle.std.specs.Prelude.{◌≡◌};
+ghost use Rattle.std.specs.Prelude.{◌≡◌, ◌<◌, ◌^◌};
 
 use pb_buses::{Emit, Inputs, Machine, Outputs};
 use pb_names::{div, first_pulse};
@@ -74,7 +74,8 @@ impl Div {
     /// The value of a read field, by its place in the catalogue: COUNT.
     pub fn read(&self, field: u8) -> u64
         requires { definition.IsRead field }
-        ensures { result ≡ definition.value_read self.now field }
+        ensures value { result ≡ definition.value_read self.now field }
+        ensures small { result < 2 ^ 32 }
     {
         match field {
             div::COUNT => u64::from(self.registers.count),

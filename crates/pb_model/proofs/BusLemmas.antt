@@ -109,13 +109,13 @@ kept_by : (b : Bool) (buses : Buses) (bus : Bus) (i entry tick : ℕ) → entry 
 kept_by true buses bus i entry tick ne = refl
 kept_by false buses bus i entry tick ne = get_or-set_other buses.changed i entry tick 0 ne
 
-other_bit : (buses : Buses) (i : ℕ) (v : Bool) (tick entry : ℕ) → entry ≢ i → IsUnchangedAt buses entry tick →
+pub other_bit : (buses : Buses) (i : ℕ) (v : Bool) (tick entry : ℕ) → entry ≢ i → IsUnchangedAt buses entry tick →
     IsUnchangedAt (with_bit buses i v tick) entry tick
 other_bit buses i v tick entry ne h =
     subst (λ (n : ℕ). (n < tick) ⊎ (tick ≡ 0))
     (sym (kept_by (beq (bit buses.bus i) v) buses (record { bits = set buses.bus.bits i v; positions = buses.bus.positions }) i entry tick ne)) h
 
-other_position : (buses : Buses) (i : ℕ) (v : ℤ) (tick entry : ℕ) → entry ≢ 128 + i → IsUnchangedAt buses entry tick →
+pub other_position : (buses : Buses) (i : ℕ) (v : ℤ) (tick entry : ℕ) → entry ≢ 128 + i → IsUnchangedAt buses entry tick →
     IsUnchangedAt (with_position buses i v tick) entry tick
 other_position buses i v tick entry ne h =
     subst (λ (n : ℕ). (n < tick) ⊎ (tick ≡ 0))

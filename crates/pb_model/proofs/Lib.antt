@@ -1,5 +1,6 @@
 pub mod AgreeLemmas
 pub mod BusLemmas
+pub mod InputLemmas
 pub mod Mapped
 pub mod PlaceLemmas
 pub mod SettingLemmas

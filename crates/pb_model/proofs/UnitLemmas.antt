@@ -379,7 +379,7 @@ set_block kept slot raw place new d w ne p e =
     ∙ set_by (slot.block == bits.BLOCK) kept slot raw (with_named machines (block_of_slot slot) (with_value slot raw) kept.blocks) refl ne
 
 pub read_is : (kept : Kept) (slot : Slot) (place : ℕ) (d : Block) → IsWhole kept.blocks kept.settings → IsSlot slot → lut.BLOCK ≤ slot.block →
-    place ≡ place_in machines (block_of_slot slot) → value_read (get_or kept.blocks place d).unit slot.field ≡ read_of kept slot
+    place ≡ place_in machines (block_of_slot slot) → value_read (get_or kept.blocks place d).unit slot.field ≡ read_of kept.blocks slot
 read_is kept slot place d w s from p =
     let many : length kept.blocks ≡ length machines = are_35 kept.blocks w.kinds ∙ sym machines_are_many in
     let inside : place_in machines (block_of_slot slot) < length kept.blocks = place_inside kept.blocks slot w.kinds s from in

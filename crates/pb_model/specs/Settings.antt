@@ -100,7 +100,7 @@ with_setting kept slot raw =
 abbrev pub changed : Kept → Change → Kept
 changed kept (changes.Set slot raw) = with_setting kept slot raw
 
--- what a read field of the box shows
-abbrev pub read_of : Kept → Slot → ℕ
-read_of kept slot =
-    value_read (of_name machines (block_of_slot slot) kept.blocks (opening_block slot.block)).unit slot.field
+-- what a read field of one of the blocks shows
+abbrev pub read_of : List Block → Slot → ℕ
+read_of blocks slot =
+    value_read (of_name machines (block_of_slot slot) blocks (opening_block slot.block)).unit slot.field

@@ -1,5 +1,5 @@
 -- One tick of the box.
-use Rattle.std.specs.Prelude.{ℕ, zero, suc, ℤ, pos, ◌+◌, ◌==◌, Bool, true, false, List, [], ◌∷◌, ◌++◌, map, filter, take, drop, replicate, slice_set, if◌then◌else◌}
+use Rattle.std.specs.Prelude.{ℕ, zero, suc, ℤ, pos, ◌+◌, ◌==◌, Bool, true, false, List, [], ◌∷◌, ◌++◌, map, filter, take, drop, replicate, slice_set, if◌then◌else◌, ◌<◌, ◌≤◌, ◌⊎◌}
 use Rattle.std.specs.List.{flat_map}
 use Rattle.pb_fields.specs.declared.FieldType.{FieldType}
 use Rattle.pb_fields.specs.declared.FieldType.TheVariants as types
@@ -132,6 +132,12 @@ ticks zero box = box
 ticks (suc n) box = ticks n (tick box)
 
 -- The stimulus puts values on the bus.
+
+-- the entries of TTLIN and of INENC, the positions counted from the end of the bit bus on
+abbrev pub IsInputEntry : ℕ → Type 0
+IsInputEntry entry =
+    (entry < ttlin.INSTANCES)
+    ⊎ ((position_bus.FIRST ≤ entry) × (entry < position_bus.FIRST + inenc.INSTANCES))
 
 abbrev pub with_bus : Box → Bus → Box
 with_bus box bus =

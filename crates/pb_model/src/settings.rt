@@ -1,4 +1,4 @@
-ghost use Rattle.std.specs.Prelude.{◌≡◌, ◌<◌, ◌≤◌, true, slice_index_or, slice_set};
+ghost use Rattle.std.specs.Prelude.{◌≡◌, ◌^◌, ◌<◌, ◌≤◌, true, slice_index_or, slice_set};
 ghost use Rattle.pb_fields.specs.Slots.{IsSlot, role_at, type_at};
 ghost use Rattle.pb_buses.specs.Delay.{wired, delayed, opening_input};
 ghost use Rattle.pb_model.specs.Changes.{IsChange, IsSet};
@@ -28,7 +28,8 @@ impl BoxState {
     pub fn read(&self, slot: Slot) -> u64
         requires slot { IsSlot slot }
         requires read { role_at slot ≡ Role.Read }
-        ensures { result ≡ read_of self.now slot }
+        ensures value { result ≡ read_of self.now.blocks slot }
+        ensures small { result < 2 ^ 32 }
     {
         let place = machine(slot.block, slot.instance);
         self.blocks[place as usize].unit.read(slot.field)

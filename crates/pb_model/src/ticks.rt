@@ -1,6 +1,7 @@
-ghost use Rattle.std.specs.Prelude.{◌≡◌, ◌+◌, ◌-◌, ◌^◌, ◌<◌, map, length};
+ghost use Rattle.std.specs.Prelude.{◌≡◌, ℕ, ◌+◌, ◌-◌, ◌^◌, ◌<◌, map, length};
 ghost use Rattle.pb_buses.specs.declared.Emit.TheVariants as emits;
-ghost use Rattle.pb_model.specs.Tick.{Box, block_after, emitted_by, emitted_of, handed_on};
+ghost use Rattle.pb_buses.specs.Buses.{IsUnchangedAt};
+ghost use Rattle.pb_model.specs.Tick.{Box, IsInputEntry, block_after, emitted_by, emitted_of, handed_on};
 ghost use Rattle.pb_model.specs.Tick as definition;
 ghost use Rattle.pb_model.specs.Kept.{Agrees, kept_after, stands_of};
 
@@ -18,6 +19,8 @@ use std::sync::ledger::Ledger;
 pub fn tick<L: Ledger>(state: &mut BoxState, steps: &mut Steps<L>) -> Emit
     requires { state.old.tick < 2 ^ 62 - 1 }
     ensures agrees { (box : Box) → Agrees state.old box → Agrees state.new (definition.tick box) }
+    ensures inputs { (box : Box) → Agrees state.old box → (entry : ℕ) → IsInputEntry entry →
+        IsUnchangedAt state.new.buses entry (state.old.tick + 1) }
     ensures kept { state.new ≡ kept_after state.old }
     ensures emits { result ≡ emitted_of (stands_of state.old) }
     ensures counts { steps.new ≡ steps.old + 35 }

@@ -1,4 +1,4 @@
-ghost use Rattle.std.specs.Prelude.{◌≡◌, ◌≤◌, ◌<◌};
+ghost use Rattle.std.specs.Prelude.{◌≡◌, ◌≤◌, ◌<◌, ◌^◌};
 ghost use Rattle.pb_names.specs.declared.lut.TheConstants as lut;
 ghost use Rattle.pb_names.specs.declared.pcap.TheConstants as pcap;
 ghost use Rattle.pb_model.specs.Units.{opening_unit, place_of, IsRead, value_read, bit_outputs, position_outputs};
@@ -64,7 +64,8 @@ impl Unit {
     /// The value of a read field, by its place in the block.
     pub fn read(&self, field: u8) -> u64
         requires { IsRead self.now field }
-        ensures { result ≡ value_read self.now field }
+        ensures value { result ≡ value_read self.now field }
+        ensures small { result < 2 ^ 32 }
     {
         match self {
             Unit::Div(block) => block.read(field),

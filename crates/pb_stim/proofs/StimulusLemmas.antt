@@ -1,5 +1,5 @@
 -- Rows at the end of a stimulus, and values where rows come later.
-use Rattle.std.proofs.Common.{true, ◌+◌, take, ap, sym, ◌∙◌, Option, Some, None, add-one, ◌≡◌, ℕ, zero, suc, ◌<◌, ◌≤◌, ◌==◌, false, List, [], ◌∷◌, ◌++◌, length, get_or, drop, ℤ, pos, refl, arith}
+use Rattle.std.proofs.Common.{true, ◌+◌, take, ap, sym, ◌∙◌, Some, None, add-one, ◌≡◌, ℕ, zero, suc, ◌<◌, ◌≤◌, ◌==◌, false, List, [], ◌∷◌, ◌++◌, length, get_or, drop, ℤ, pos, refl, arith}
 use Rattle.std.specs.Prelude.{if◌then◌else◌}
 use Rattle.std.specs.List.{AllByRecursion, AllWithin}
 use Rattle.std.specs.List.Sorted.{IsNonDecreasingBy}

@@ -36,7 +36,7 @@ impl Model for Stimulus {
 }
 
 impl Stimulus {
-    ghost use Rattle.pb_stim.specs.Stimulus.{last_tick, IsRow, value_at, next_tick};
+    ghost use Rattle.pb_stim.specs.Stimulus.{last_tick, IsRow, AreRows, value_at, next_tick};
 
     /// No rows.
     pub fn new(alloc: Global) -> Stimulus
@@ -63,9 +63,10 @@ impl Stimulus {
         Ok(())
     }
 
-    /// The number of rows.
+    /// The number of rows. Each is one that a stimulus may have, and their ticks never fall.
     pub fn len(&self) -> usize
-        ensures { result ≡ length self.now }
+        ensures len { result ≡ length self.now }
+        ensures rows { AreRows self.now }
     {
         self.rows.len()
     }

@@ -1,5 +1,5 @@
 use Rattle.std.proofs.Common.{◌≤◌, length}
-use Rattle.pb_core.specs.Stimulus.{last_tick}
+use Rattle.pb_stim.specs.Stimulus.{last_tick}
 use Rattle.panda_sim.specs.KeptScript.{script_events}
 use Rattle.panda_sim.proofs.ReadSoFar.{IsRead}
 use Rattle.panda_sim.proofs.parsing.parse.Given as goal

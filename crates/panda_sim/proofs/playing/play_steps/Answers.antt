@@ -1,13 +1,15 @@
 use Rattle.std.proofs.Common.{refl, arith}
 use Rattle.panda_sim.specs.KeptScript.{step_events}
-use Rattle.panda_sim.proofs.PlayedSoFar.{played_step, played_break, rose_later}
+use Rattle.panda_sim.proofs.PlayedSoFar.{stands_more, stands_break, rose_later}
 use Rattle.panda_sim.proofs.playing.play_steps.Goals as goal
 
 pub returns-in_default : goal.returns-in_default
 returns-in_default g c =
     let inv = c.loop-moment.invariant in
     record {
-      plays = played_break step_events _ c.loop-moment.core c.args.moments.now c.loop-moment.moment-index _ _ _ _ c.play_step.result c.in_default.not-Ok c.loop-moment-test.true inv.played c.play_step.ensures.plays;
+      plays = λ state h.
+          stands_break step_events state c.loop-moment.core c.args.moments.now c.loop-moment.moment-index _ _ _ _
+          c.play_step.result c.in_default.not-Ok c.loop-moment-test.true (inv.played state h) c.play_step.ensures.plays;
       cause = λ is. rose_later _ _ _ inv.count (c.play_step.ensures.cause is);
       count = omega (arith, inv.count, c.play_step.ensures.count);
     }
@@ -16,6 +18,8 @@ pub loop-moment-preserved : goal.loop-moment-preserved
 loop-moment-preserved g c =
     let inv = c.loop-moment.invariant in
     record {
-      played = played_step step_events _ c.loop-moment.core c.play_step.new.core c.args.moments.now c.loop-moment.moment-index _ _ _ _ c.loop-moment-test.true inv.played c.in-Ok.ensures.plays (c.in-Ok.ensures.core refl);
+      played = λ state h.
+          stands_more step_events state c.loop-moment.core c.play_step.new.core c.args.moments.now c.loop-moment.moment-index
+          _ _ _ _ c.loop-moment-test.true (inv.played state h) c.in-Ok.ensures.plays (c.in-Ok.ensures.core refl);
       count = omega (arith, inv.count, c.play_step.ensures.count);
     }

@@ -7,17 +7,22 @@ use Rattle.pb_fields.specs.Labels.{bit_names}
 use Rattle.pb_fields.specs.Spelled.{spelled}
 use Rattle.pb_lut.specs.Computed.{function_of}
 use Rattle.pb_config.specs.Assigning.{raw_given}
+use Rattle.pb_buses.specs.Buses.{number}
+use Rattle.pb_buses.specs.Delay.{digits as line_digits, line_after, pushed}
+use Rattle.pb_model.specs.Machines.{machines, machine_kinds}
+use Rattle.pb_model.specs.Units.{bit_outputs, position_outputs}
+use Rattle.pb_model.specs.Tick.{opening_block, opening_selections}
+use Rattle.pb_model.specs.Settings.{so_many_before}
 use Rattle.pb_core.specs.Naming.{named_by}
 use Rattle.pb_core.proofs.examples.input_is_seen_one_tick_later.Goals as goal
 
 pub returns : goal.returns
-unfolding command_of said_in is_target names_in catalogue bit_entries bit_names spelled function_of raw_given named_by digits
+unfolding number line_digits line_after pushed machines machine_kinds bit_outputs position_outputs opening_block opening_selections so_many_before command_of said_in is_target names_in catalogue bit_entries bit_names spelled function_of raw_given named_by digits
 returns c =
     record {
       output_at_0 = refl;
       output_at_1 = refl;
-      input_at_9 = refl;
-      input_at_10 = refl;
-      output_at_10 = refl;
-      output_at_11 = refl;
+      input_at_2 = refl;
+      output_at_2 = refl;
+      output_at_3 = refl;
     }

@@ -3,6 +3,7 @@ use Rattle.std.specs.List.{flat_map}
 use Rattle.pb_model.specs.Tick.{kind_of, bits_of, positions_of}
 use Rattle.pb_model.specs.Kept.{Kept, kept_after, with_bits, with_positions}
 use Rattle.pb_model.proofs.TickLemmas.{kinds_after, many_bits, many_positions, are_35, pieces, agrees_along}
+use Rattle.pb_model.proofs.InputLemmas.{inputs_along}
 use Rattle.pb_model.proofs.ticks.tick.Goals as goal
 
 pub show_bits-entry-requires : goal.show_bits-entry-requires
@@ -68,6 +69,24 @@ returns-clause-agrees g c =
       blocks = c.state.inside.blocks.items;
     } in
     agrees_along kept c.args.state.now _ c.state.view_is c.state.invariant
+    (pieces kept c.step_blocks-emit.new.blocks.items c.show_bits-entry.new.buses c.show_values.new.buses
+    c.show_positions.new.buses c.show_bits-entry.result c.step_blocks-emit.ensures.blocks
+    (c.show_bits-entry.ensures.shown
+    ∙ ap (λ l. with_bits 6 (flat_map bits_of l) (c.state.inside.tick + 1) c.state.inside.buses) c.deref.ensures.value)
+    (c.show_bits-entry.ensures.next ∙ ap (λ l. 6 + length (flat_map bits_of l)) c.deref.ensures.value)
+    c.show_values.ensures
+    (c.show_positions.ensures
+    ∙ ap (λ l. with_positions 4 (flat_map positions_of l) (c.state.inside.tick + 1) c.show_values.new.buses) c.deref-2.ensures.value))
+
+pub returns-clause-inputs : goal.returns-clause-inputs
+returns-clause-inputs g c =
+    let kept : Kept = record {
+      tick = c.state.inside.tick;
+      buses = c.state.inside.buses;
+      settings = c.state.inside.settings;
+      blocks = c.state.inside.blocks.items;
+    } in
+    inputs_along kept c.args.state.now _ c.state.view_is c.state.invariant
     (pieces kept c.step_blocks-emit.new.blocks.items c.show_bits-entry.new.buses c.show_values.new.buses
     c.show_positions.new.buses c.show_bits-entry.result c.step_blocks-emit.ensures.blocks
     (c.show_bits-entry.ensures.shown

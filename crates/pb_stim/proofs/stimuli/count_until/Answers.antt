@@ -1,5 +1,4 @@
-use Rattle.std.proofs.Common.{rules, length}
-use Rattle.std.specs.List.Sorted.{IsPartitionPoint}
+use Rattle.std.proofs.Common.{rules}
 use Rattle.std.proofs.Math.Dec.{leb}
 use Rattle.std.proofs.lemmas.List.Sorted.{IsPartitionPoint-from_clause, IsPartitionedBy-leb}
 use Rattle.pb_stim.specs.declared.stimuli.Row.{Row}

@@ -28,16 +28,16 @@ read-requires c =
     ∙ kind_named c.self.inside.blocks.items c.args.slot c.index.result.now c.self.invariant.kinds c.requires.slot
     (read_block c.args.slot c.requires.slot c.requires.read)))
 
-pub returns : goal.returns
-returns c =
+pub returns-clause-value : goal.returns-clause-value
+returns-clause-value c =
     let kept : Kept = record {
       tick = c.self.inside.tick;
       buses = c.self.inside.buses;
       settings = c.self.inside.settings;
       blocks = c.self.inside.blocks.items;
     } in
-    c.read.ensures
+    c.read.ensures.value
     ∙ (ap (λ (b : Block). value_read b.unit c.args.slot.field) c.index.ensures
     ∙ (read_is kept c.args.slot c.machine-place.result c.index.result.now c.self.invariant c.requires.slot
     (read_block c.args.slot c.requires.slot c.requires.read) c.machine-place.ensures.place
-    ∙ ap (λ k. read_of k c.args.slot) c.self.view_is))
+    ∙ ap (λ (k : Kept). read_of k.blocks c.args.slot) c.self.view_is))

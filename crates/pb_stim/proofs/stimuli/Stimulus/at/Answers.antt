@@ -1,6 +1,6 @@
-use Rattle.std.proofs.Common.{◌≡◌, take, ap, sym, ◌∙◌, rules}
+use Rattle.std.proofs.Common.{ap, ◌∙◌, rules}
 use Rattle.std.specs.Int.{w32}
-use mir.Val.{SFits, to_z, of_z}
+use mir.Val.{SFits}
 use Rattle.std.proofs.lemmas.Int.{to_z-of_z}
 use Rattle.pb_stim.specs.Stimulus.{value_at}
 use Rattle.pb_stim.proofs.StimulusLemmas.{value_at-past}

@@ -1,4 +1,4 @@
-use Rattle.std.proofs.Common.{◌≡◌, ap, sym, ◌∙◌}
+use Rattle.std.proofs.Common.{ap, ◌∙◌}
 use Rattle.pb_stim.specs.Stimulus.{next_tick}
 use Rattle.pb_stim.proofs.StimulusLemmas.{next_at, next_none}
 use Rattle.pb_stim.proofs.stimuli.Stimulus.next_after.Goals as goal

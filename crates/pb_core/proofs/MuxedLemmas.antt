@@ -1,0 +1,202 @@
+-- Events leave the bit inputs as the settings have them.
+use Rattle.std.proofs.Common.{◌≡◌, ◌≢◌, ℕ, zero, suc, ◌-◌, ◌==◌, ◌&&◌, ◌||◌, Bool, true, false, not, List, [], ◌∷◌, get_or, codes, Option, Some, None, Result, Ok, Err, refl, sym, ap, subst, ◌∙◌, arith, if◌then◌else◌}
+use Rattle.std.proofs.lemmas.Bool.{eqb-true}
+use Rattle.pb_words.specs.declared.Refusal.{Refusal}
+use Rattle.pb_words.specs.declared.Refusal.TheVariants as refusals
+use Rattle.pb_words.specs.Refusing.{result_then, result_map}
+use Rattle.pb_names.specs.declared.TheConstants.{ITSELF}
+use Rattle.pb_names.specs.declared.bit_mux.TheConstants as bit_mux
+use Rattle.pb_fields.specs.declared.Slot.{Slot}
+use Rattle.pb_fields.specs.declared.Attribute.{Attribute}
+use Rattle.pb_fields.specs.declared.Attribute.TheVariants as attributes
+use Rattle.pb_fields.specs.Types.{attributes_of}
+use Rattle.pb_fields.specs.Catalogue.{catalogue}
+use Rattle.pb_fields.specs.Places.{type_of}
+use Rattle.pb_fields.specs.Slots.{IsSlot, type_at, attributes_at, attribute_at}
+use Rattle.pb_fields.proofs.RowLemmas.{and_left, and_right}
+use Rattle.pb_grammar.specs.Grammar.{Said, Query, Assign, Table, Echo, Bad, command_of, after_front}
+use Rattle.pb_stim.specs.declared.Row.{Row}
+use Rattle.pb_buses.specs.Delay.{BitInput}
+use Rattle.pb_model.specs.declared.Change.{Change}
+use Rattle.pb_model.specs.declared.Change.TheVariants as changes
+use Rattle.pb_model.specs.Tick.{Box, is_bit_mux}
+use Rattle.pb_model.specs.Settings.{blocks_with}
+use Rattle.pb_config.specs.Settings.{Settings, raw_of}
+use Rattle.pb_config.specs.Assigning.{is_assignable, is_assignable_by, raw_given, target, target_by, changes_box, assigned, after_by}
+use Rattle.pb_config.specs.Reached.{IsReached, at_first, by_assignment}
+use Rattle.pb_config.proofs.AssignedLemmas.{others_stay, value_here}
+use Rattle.pb_config.proofs.TextLemmas.{all_of, at_each, where_so}
+use Rattle.pb_core.specs.declared.targets.Named.{Named}
+use Rattle.pb_core.specs.declared.targets.Named.TheVariants as names
+use Rattle.pb_core.specs.declared.events.Event.{Event}
+use Rattle.pb_core.specs.declared.events.Event.TheVariants as events
+use Rattle.pb_core.specs.Tick.{tick, ticks}
+use Rattle.pb_core.specs.Core.{CoreState, opening}
+use Rattle.pb_core.specs.Naming.{named_by}
+use Rattle.pb_core.specs.Assignments.{given, changed_by, named_given}
+use Rattle.pb_core.specs.Answer.{left_by, said_after, after, after_all}
+use Rattle.pb_core.specs.Muxes.{IsMux, delay_of, MuxesAreSet}
+use Rattle.pb_core.proofs.MuxLemmas.{Holds, holds_first, holds_tick, holds_delayed, holds_own, holds_same, input_is, mux_type}
+use Rattle.pb_core.proofs.ReachedLemmas.{IsSlotThere, IsFound, found_by}
+
+-- the attribute of a mux, and of its delay
+mux_attribute : (u : Slot) → IsMux u → attribute_at u ≡ None
+mux_attribute u m = rw m.itself refl
+
+delay_attribute : (u : Slot) → IsMux u → attribute_at (delay_of u) ≡ Some attributes.Delay
+delay_attribute u m = rw m.mux refl
+
+-- a slot that is a DELAY is that of a mux
+is_delay : Option Attribute → Bool
+is_delay (Some attributes.Delay) = true
+is_delay _ = false
+
+is_placed : ℕ → ℕ → ℕ → Bool
+is_placed b f a =
+    not (is_delay (if a == ITSELF then None else Some (get_or (attributes_of (type_of b f)) (a - 1) attributes.Info)))
+    || (is_bit_mux (type_of b f) && a == bit_mux.DELAY)
+
+all_placed : all_of is_placed ≡ true
+unfolding is_placed is_delay catalogue
+all_placed = refl
+
+placed : (slot : Slot) → IsSlot slot → attribute_at slot ≡ Some attributes.Delay → (is_bit_mux (type_at slot) && slot.attr == bit_mux.DELAY) ≡ true
+unfolding is_placed is_delay
+placed slot s e = where_so _ _ (at_each is_placed all_placed slot s) (ap is_delay e)
+
+abbrev bare_of : Slot → Slot
+bare_of slot = record { block = slot.block; instance = slot.instance; field = slot.field; attr = ITSELF }
+
+-- What an assignment leaves.
+
+refused_test : (b : Bool) (x : Result ℕ Refusal) (raw : ℕ) → b ≡ false → (if not b then Err refusals.NotWriteable else x) ≡ Ok raw → ⊥
+refused_test true x raw n h = cc
+refused_test false x raw n h = cc
+
+refused_by : (settings : Settings) (slot : Slot) (text : List ℕ) (raw : ℕ) → is_assignable slot ≡ false → raw_given settings slot text ≡ Ok raw → ⊥
+unfolding raw_given
+refused_by settings slot text raw n told = refused_test (is_assignable slot) _ raw n told
+
+module _ (settings : Settings) (slot : Slot) (text : List ℕ) (raw : ℕ) (box : Box) (r : IsReached settings) (s : IsSlot slot)
+    (e : raw_given settings slot text ≡ Ok raw) (h : Holds settings box.stands.blocks) where
+  here : raw_of (assigned settings slot text raw) (target slot) ≡ raw
+  here = sym (ap (λ told. raw_of (after_by settings slot text told) (target slot)) e) ∙ value_here settings slot text raw r s e
+
+  others : (u : Slot) → IsSlot u → u ≢ target slot → raw_of (assigned settings slot text raw) u ≡ raw_of settings u
+  others u is ne = sym (ap (λ told. raw_of (after_by settings slot text told) u) e) ∙ others_stay settings slot u text s is ne
+
+  assignable : is_assignable slot ≡ true
+  assignable = by (is_assignable slot) refl
+    where
+      by : (b : Bool) → is_assignable slot ≡ b → is_assignable slot ≡ true
+      by true is = is
+      by false is = absurd (refused_by settings slot text raw is e)
+
+itself_by : (b : Bool) (slot : Slot) (a : Attribute) → (slot.attr == ITSELF) ≡ b → (if b then None else Some a) ≡ None → slot.attr ≡ ITSELF
+itself_by true slot a e h = eqb-true slot.attr ITSELF e
+itself_by false slot a e h = cc
+
+itself_of : (slot : Slot) → attribute_at slot ≡ None → slot.attr ≡ ITSELF
+itself_of slot h = itself_by (slot.attr == ITSELF) slot (get_or (attributes_at slot) (slot.attr - 1) attributes.Info) refl h
+
+bare_slot : (slot : Slot) → IsSlot slot → IsSlot (bare_of slot)
+bare_slot slot s =
+    record { in_blocks = s.in_blocks; from_one = s.from_one; in_count = s.in_count; in_fields = s.in_fields; in_attributes = omega arith }
+
+abbrev change_by : Option Attribute → Slot → ℕ → Option Change
+change_by o slot raw = if changes_box o then Some (changes.Set (target_by o slot) raw) else None
+
+unlike_mux : (slot : Slot) (a : Attribute) → attribute_at slot ≡ Some a → (Some attributes.Delay ≡ Some a → ⊥) → (u : Slot) → IsMux u → (u ≢ slot) × (delay_of u ≢ slot)
+unlike_mux slot a q ne u m = (
+  λ x. none_some (sym (mux_attribute u m) ∙ (ap attribute_at x ∙ q)),
+  λ x. ne (sym (delay_attribute u m) ∙ (ap attribute_at x ∙ q)),
+)
+  where
+    none_some : None ≡ Some a → ⊥
+    none_some z = cc
+
+left_by_attribute : (o : Option Attribute) (settings next : Settings) (slot : Slot) (raw : ℕ) (box : Box) → IsSlot slot → attribute_at slot ≡ o →
+    is_assignable_by (type_at slot) o ≡ true →
+    raw_of next (target_by o slot) ≡ raw → ((u : Slot) → IsSlot u → u ≢ target_by o slot → raw_of next u ≡ raw_of settings u) →
+    Holds settings box.stands.blocks → Holds next (changed_by (change_by o slot raw) box).stands.blocks
+left_by_attribute None settings next slot raw box s q k here others h =
+    holds_own settings next slot raw box.stands.blocks s here others h (itself_of slot q)
+left_by_attribute (Some attributes.TimeRaw) settings next slot raw box s q k here others h =
+    holds_own settings next (bare_of slot) raw box.stands.blocks (bare_slot slot s) here others h refl
+left_by_attribute (Some attributes.Delay) settings next slot raw box s q k here others h =
+    let both = placed slot s q in
+    let m : IsMux (bare_of slot) = record { in_catalogue = bare_slot slot s; mux = mux_type (type_at slot) (and_left _ _ both); itself = refl } in
+    let same : slot ≡ delay_of (bare_of slot) =
+    ap (λ a. record { block = slot.block; instance = slot.instance; field = slot.field; attr = a }) (eqb-true _ _ (and_right _ _ both)) in
+    subst (λ x. Holds next (blocks_with x raw box.stands.blocks)) (sym same)
+    (holds_delayed settings next (bare_of slot) raw box.stands.blocks m (subst (λ x. raw_of next x ≡ raw) same here)
+    (subst (λ (x : Slot). (u : Slot) → IsSlot u → u ≢ x → raw_of next u ≡ raw_of settings u) same others) h)
+left_by_attribute (Some attributes.TimeUnits) settings next slot raw box s q k here others h =
+    holds_same settings next slot raw box.stands.blocks s here others h (unlike_mux slot attributes.TimeUnits q (λ x. cc))
+left_by_attribute (Some attributes.PosCapture) settings next slot raw box s q k here others h =
+    holds_same settings next slot raw box.stands.blocks s here others h (unlike_mux slot attributes.PosCapture q (λ x. cc))
+left_by_attribute (Some attributes.ExtCapture) settings next slot raw box s q k here others h =
+    holds_same settings next slot raw box.stands.blocks s here others h (unlike_mux slot attributes.ExtCapture q (λ x. cc))
+left_by_attribute (Some attributes.Offset) settings next slot raw box s q k here others h =
+    holds_same settings next slot raw box.stands.blocks s here others h (unlike_mux slot attributes.Offset q (λ x. cc))
+left_by_attribute (Some attributes.Scale) settings next slot raw box s q k here others h =
+    holds_same settings next slot raw box.stands.blocks s here others h (unlike_mux slot attributes.Scale q (λ x. cc))
+left_by_attribute (Some attributes.Units) settings next slot raw box s q k here others h =
+    holds_same settings next slot raw box.stands.blocks s here others h (unlike_mux slot attributes.Units q (λ x. cc))
+left_by_attribute (Some _) settings next slot raw box s q k here others h = absurd (cc)
+
+-- What events leave.
+
+record Stands (core : CoreState) : Type 0 where
+  reached : IsReached core.settings
+  held : Holds core.settings core.box.stands.blocks
+
+slot_left : (core : CoreState) (slot : Slot) (text : List ℕ) (told : Result ℕ Refusal) → raw_given core.settings slot text ≡ told → IsSlot slot → Stands core →
+    Stands (left_by core (result_map (given slot text) told))
+slot_left core slot text (Err refusal) e s h = h
+slot_left core slot text (Ok raw) e s h =
+    record {
+      reached = subst IsReached (ap (after_by core.settings slot text) e) (by_assignment core.settings slot text s h.reached);
+      held =
+          left_by_attribute (attribute_at slot) core.settings (assigned core.settings slot text raw) slot raw core.box s refl
+          (assignable core.settings slot text raw core.box h.reached s e h.held) (here core.settings slot text raw core.box h.reached s e h.held)
+          (others core.settings slot text raw core.box h.reached s e h.held) h.held;
+    }
+
+left : (core : CoreState) (text : List ℕ) (r : Result Named Refusal) → IsFound r → Stands core → Stands (left_by core (result_then r (named_given core.settings text)))
+unfolding IsFound IsSlotThere
+left core text (Err refusal) f h = h
+left core text (Ok (names.Value slot)) f h = slot_left core slot text (raw_given core.settings slot text) refl f h
+left core text (Ok named) f h = h
+
+said_left : (core : CoreState) (said : Said) → Stands core → Stands (said_after core said)
+unfolding named_by
+said_left core (Query target) h = h
+said_left core (Assign target value) h = left core value (named_by target) (found_by target (after_front (codes "*") target)) h
+said_left core (Table target append base64 body) h = h
+said_left core (Echo text) h = h
+said_left core (Bad refusal) h = h
+
+ticks_left : (n : ℕ) (settings : Settings) (rows : List Row) (box : Box) → Holds settings box.stands.blocks → Holds settings (ticks n rows box).stands.blocks
+ticks_left zero settings rows box h = h
+ticks_left (suc n) settings rows box h = ticks_left n settings rows (tick rows box) (holds_tick box.stands.bus box.stands.tick settings box.stands.blocks h)
+
+event_left : (core : CoreState) (event : Event) → Stands core → Stands (after core event)
+event_left core (events.Line id text) h = said_left core (command_of text) h
+event_left core (events.Advance to) h =
+    record { reached = h.reached; held = ticks_left (to - core.box.stands.tick) core.settings core.rows core.box h.held }
+
+all_left : (core : CoreState) (happened : List Event) → Stands core → Stands (after_all core happened)
+all_left core [] h = h
+all_left core (event ∷ rest) h = all_left (after core event) rest (event_left core event h)
+
+are_set : (core : CoreState) → Stands core → MuxesAreSet core
+are_set core h =
+    record {
+      selections = λ slot m. ap (λ (x : BitInput). x.select) (input_is core.box.stands.blocks slot h.held.many m) ∙ h.held.selections slot m;
+      delays = λ slot m. ap (λ (x : BitInput). x.delay) (input_is core.box.stands.blocks slot h.held.many m) ∙ h.held.delays slot m;
+    }
+
+pub muxes_set : (rows : List Row) (happened : List Event) → MuxesAreSet (after_all (opening rows) happened)
+muxes_set rows happened =
+    are_set (after_all (opening rows) happened) (all_left (opening rows) happened (record { reached = at_first; held = holds_first }))
