@@ -1,7 +1,17 @@
-//! Tests of the public calls of pb_buses and pb_stim.
+//! Tests of the public calls of pb_buses, pb_stim and the kinds of block.
 #![tactic(auto)]
 
 #[cfg(test)]
 mod buses;
+#[cfg(test)]
+mod clocks;
+#[cfg(test)]
+mod logic;
+#[cfg(test)]
+mod pcomp;
+#[cfg(test)]
+mod sequencers;
+#[cfg(test)]
+mod stepping;
 #[cfg(test)]
 mod stim;

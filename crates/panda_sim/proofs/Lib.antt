@@ -2,6 +2,9 @@ pub mod LineLemmas
 pub mod SignedTexts
 pub mod Unique
 pub mod ReadSoFar
+pub mod ReadDeeds
+pub mod PlayedLines
+pub mod FedLines
 pub mod PlayedSoFar
 pub mod OneWord
 pub mod Causes

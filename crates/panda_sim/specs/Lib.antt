@@ -4,3 +4,4 @@ pub mod Output
 pub mod Plays
 pub mod Run
 pub mod Script
+pub mod Steps

@@ -34,3 +34,31 @@ pub fn worked_scripts()
         ∷ [])
         ≡ codes "0 C 1 22\nERR Malformed command\n0 C 1 18\nERR Unknown label\n0 C 1 20\nERR Malformed value\n" }
 {}
+
+/// A table write goes over several lines: it is answered at the tick of its empty line, and what is unfinished at the
+/// end not at all. A line of a body sends nothing by itself.
+pub fn commands_over_several_lines()
+    ensures table { output (
+        Timed 0 (Command 1 (codes "FOO.X<"))
+        ∷ Skipped
+        ∷ Timed 0 (Command 1 (codes "1 2 x"))
+        ∷ Timed 1 (Command 1 (codes "LUT1.OUT?"))
+        ∷ Timed 2 (Command 1 [])
+        ∷ Timed 2 End
+        ∷ [])
+        ≡ codes "2 C 1 18\nERR No such block\n" }
+    ensures malformed { output (
+        Timed 0 (Command 1 (codes "*ECHO a<"))
+        ∷ Timed 0 (Command 1 [])
+        ∷ Timed 0 (Command 1 (codes "*ECHO a?"))
+        ∷ Timed 0 End
+        ∷ [])
+        ≡ codes "0 C 1 22\nERR Malformed command\n0 C 1 6\nOK =a\n" }
+    ensures unfinished { output (
+        Timed 0 (Command 1 (codes "*ECHO a?"))
+        ∷ Timed 0 (Command 1 (codes "FOO.X<"))
+        ∷ Timed 0 (Command 1 (codes "*ECHO b?"))
+        ∷ Timed 0 End
+        ∷ [])
+        ≡ codes "0 C 1 6\nOK =a\n" }
+{}

@@ -3,6 +3,7 @@
 
 mod cuts;
 mod examples;
+mod feeding;
 mod lines;
 mod parsing;
 mod playing;

@@ -1,10 +1,10 @@
 ghost use Rattle.std.specs.Prelude.{◌≡◌, ℕ, ◌+◌, ◌<◌, ◌≤◌, ◌^◌, ◌⊎◌, ◌++◌, pos, List, Bool, IfOk, OnOk, IfSome, IfNone};
-ghost use Rattle.std.specs.List.{flat_map};
 ghost use Rattle.pb_stim.specs.Stimulus.{last_tick};
 ghost use Rattle.panda_sim.specs.Script.{Line, Timed, is_end, IsScript};
 ghost use Rattle.panda_sim.specs.Lines.{deed_of, IsReadDeed};
-ghost use Rattle.panda_sim.specs.Output.{rows_of, events_of};
-ghost use Rattle.panda_sim.specs.KeptScript.{script_events};
+ghost use Rattle.panda_sim.specs.Output.{output, rows_of};
+ghost use Rattle.panda_sim.specs.Steps.{played_of};
+ghost use Rattle.panda_sim.specs.KeptScript.{script_lines, script_output};
 
 use crate::cuts::cut_line;
 use crate::lines::{ReadDeed, ReadLine};
@@ -19,7 +19,7 @@ pub const LONGEST: usize = 16_777_216;
 
 /// The script that the bytes are, if any.
 pub(crate) fn parse(alloc: Global, text: &[u8]) -> Result<Option<Script<'_>>, OutOfMemory>
-    ensures found { IfOk result (λ o. IfSome o (λ script. (lines : List Line) × IsScript text.now lines × (script.stimulus ≡ flat_map rows_of lines) × (script_events script ≡ flat_map events_of lines))) }
+    ensures found { IfOk result (λ o. IfSome o (λ script. (lines : List Line) × IsScript text.now lines × (script_output script ≡ output lines))) }
     ensures none { IfOk result (λ o. IfNone o ((lines : List Line) → ¬ (IsScript text.now lines))) }
 {
     if LONGEST < text.len() {
@@ -59,7 +59,7 @@ impl<'a> Script<'a> {
         requires deed { IsReadDeed deed }
         requires order { last_tick 0 self.old.stimulus ≤ tick }
         ensures rows { OnOk result (self.new.stimulus ≡ self.old.stimulus ++ rows_of (Timed tick (deed_of deed.entry))) }
-        ensures events { OnOk result (script_events self.new ≡ script_events self.old ++ events_of (Timed tick (deed_of deed.entry))) }
+        ensures lines { OnOk result (script_lines self.new ≡ script_lines self.old ++ played_of (Timed tick (deed_of deed.entry))) }
         ensures last { OnOk result (self.new.last ≡ tick) }
         ensures ended { OnOk result (self.new.ended ≡ is_end (deed_of deed.entry)) }
     {

@@ -1,19 +1,25 @@
-ghost use Rattle.std.specs.Prelude.{◌≡◌, ℕ, ◌<◌, ◌≤◌, ◌++◌, ◌∷◌, [], ◌^◌, All, IfOk};
-ghost use Rattle.std.specs.List.{flat_map};
+ghost use Rattle.std.specs.Prelude.{◌≡◌, ℕ, ◌<◌, ◌≤◌, ◌∷◌, [], List, map, ◌^◌, All, IfOk};
 ghost use Rattle.pb_ports.specs.Ports.{Rose};
+ghost use Rattle.pb_grammar.specs.Feeding.{Fed, Completed, HasWhole};
 ghost use Rattle.pb_core.specs.Kept.{Agrees};
-ghost use Rattle.pb_core.specs.Answer.{CoreState, after, after_all};
-ghost use Rattle.panda_sim.specs.Output.{written, sections};
+ghost use Rattle.pb_core.specs.Answer.{CoreState, opening, after, after_all};
+ghost use Rattle.pb_core.specs.declared.Event.TheVariants as events;
+ghost use Rattle.panda_sim.specs.Output.{written, sections, sent, events_of, events_from, waits_after};
 ghost use Rattle.panda_sim.specs.Plays.{Plays};
-ghost use Rattle.panda_sim.specs.KeptScript.{step_events, script_output};
+ghost use Rattle.panda_sim.specs.Steps.{IsStep, step_line};
+ghost use Rattle.panda_sim.specs.KeptScript.{script_output};
 
+use crate::feeding::{feed_line, text_of, whole_event};
 use crate::scripts::{Script, Step};
 use crate::sections::write_section;
 use crate::statuses::Played;
 use pb_core::{Core, Event};
+use pb_grammar::Assembler;
 use pb_ports::Sink;
+use pb_stim::Stimulus;
 use pb_words::{OutOfMemory, Steps, Text};
 use std::alloc::Global;
+use std::mem;
 use std::sync::ledger::Ledger;
 
 /// Plays a script from its beginning to its end.
@@ -33,94 +39,144 @@ pub(crate) fn play<K: Sink, L: Ledger>(
         last: _,
         ended: _,
     } = script;
-    match Core::new(alloc, stimulus) {
-        Ok(mut core) => play_steps(alloc, &mut core, moments.as_slice(), output, steps),
+    match Player::new(alloc, stimulus) {
+        Ok(mut player) => player.play_steps(moments.as_slice(), output, steps),
         Err(_) => Played::OutOfMemory,
     }
 }
 
-fn play_steps<K: Sink, L: Ledger>(
+/// What stands while a script is played. The two texts keep their memory from command to command.
+#[derive(Drop)]
+struct Player {
     alloc: Global,
-    core: &mut Core,
-    moments: &[Step<'_>],
-    output: &mut K,
-    steps: &mut Steps<L>,
-) -> Played
-    requires { All (λ step. step.tick < 2 ^ 62) moments.now }
-    ensures plays { (state : CoreState) → Agrees core.old state →
-        Plays (sections state (flat_map step_events moments.now)) result (K.held output.old) (K.held output.new) }
-    ensures cause { result ≡ Played.WriteFault → Rose (K.faults output.old) (K.faults output.new) }
-    ensures count { K.faults output.old ≤ K.faults output.new }
-{
-    let mut scratch = Text::new(alloc);
-    for moment in moments {
-        match play_step(alloc, core, moment, &mut scratch, output, steps) {
-            Played::Ok => {}
-            end => return end,
+    core: Core,
+    /// The bytes of a command that isn't complete yet.
+    assembler: Assembler,
+    /// The bytes of the last command.
+    command: Text,
+    /// The last section.
+    section: Text,
+}
+
+impl Player {
+    /// At the beginning of a script with this stimulus.
+    fn new(alloc: Global, stimulus: Stimulus) -> Result<Player, OutOfMemory>
+        ensures core { IfOk result (λ player. Agrees player.core (opening stimulus)) }
+        ensures fed { IfOk result (λ player. Fed player.assembler []) }
+    {
+        let assembler = Assembler::new(alloc)?;
+        match Core::new(alloc, stimulus) {
+            Ok(core) => Ok(Player {
+                alloc,
+                core,
+                assembler,
+                command: Text::new(alloc),
+                section: Text::new(alloc),
+            }),
+            Err(_) => Err(OutOfMemory),
         }
     }
-    Played::Ok
-}
 
-/// Plays one step: the box goes to its tick, and then the session sends its line.
-fn play_step<K: Sink, L: Ledger>(
-    alloc: Global,
-    core: &mut Core,
-    moment: &Step<'_>,
-    scratch: &mut Text,
-    output: &mut K,
-    steps: &mut Steps<L>,
-) -> Played
-    requires { moment.now.tick < 2 ^ 62 }
-    ensures plays { (state : CoreState) → Agrees core.old state →
-        Plays (sections state (step_events moment.now)) result (K.held output.old) (K.held output.new) }
-    ensures core { result ≡ Played.Ok → (state : CoreState) → Agrees core.old state →
-        Agrees core.new (after_all state (step_events moment.now)) }
-    ensures cause { result ≡ Played.WriteFault → Rose (K.faults output.old) (K.faults output.new) }
-    ensures count { K.faults output.old ≤ K.faults output.new }
-{
-    match core.apply(&Event::Advance { to: moment.tick }, steps) {
-        Ok(_) => match moment.text {
-            Some(text) => play_line(alloc, core, text, scratch, output, steps),
-            None => Played::Ok,
-        },
-        Err(_) => Played::OutOfMemory,
+    fn play_steps<K: Sink, L: Ledger>(
+        &mut self,
+        moments: &[Step<'_>],
+        output: &mut K,
+        steps: &mut Steps<L>,
+    ) -> Played
+        requires steps { All IsStep moments.now }
+        requires fed { Fed self.old.assembler [] }
+        ensures plays { (state : CoreState) → Agrees self.old.core state →
+            Plays (sections state (events_from [] (map step_line moments.now))) result (K.held output.old) (K.held output.new) }
+        ensures cause { result ≡ Played.WriteFault → Rose (K.faults output.old) (K.faults output.new) }
+        ensures count { K.faults output.old ≤ K.faults output.new }
+    {
+        for moment in moments {
+            match self.play_step(moment, output, steps) {
+                Played::Ok => {}
+                end => return end,
+            }
+        }
+        Played::Ok
     }
-}
 
-/// Plays one line of a control session.
-fn play_line<K: Sink, L: Ledger>(
-    alloc: Global,
-    core: &mut Core,
-    text: &[u8],
-    scratch: &mut Text,
-    output: &mut K,
-    steps: &mut Steps<L>,
-) -> Played
-    ensures plays { (state : CoreState) → Agrees core.old state →
-        Plays (written state (Event.Line 1 (text.now ++ 10 ∷ []))) result (K.held output.old) (K.held output.new) }
-    ensures core { result ≡ Played.Ok → (state : CoreState) → Agrees core.old state →
-        Agrees core.new (after state (Event.Line 1 (text.now ++ 10 ∷ []))) }
-    ensures cause { result ≡ Played.WriteFault → Rose (K.faults output.old) (K.faults output.new) }
-    ensures count { K.faults output.old ≤ K.faults output.new }
-{
-    let line = match whole_line(alloc, text) {
-        Ok(line) => line,
-        Err(_) => return Played::OutOfMemory,
-    };
-    let tick = core.now();
-    match core.apply(&Event::Line { id: 1, text: line }, steps) {
-        Ok(answer) => write_section(tick, 1, answer.bytes(), scratch, output),
-        Err(_) => Played::OutOfMemory,
+    /// Plays one step: a line of the session, or the end.
+    fn play_step<K: Sink, L: Ledger>(
+        &mut self,
+        moment: &Step<'_>,
+        output: &mut K,
+        steps: &mut Steps<L>,
+    ) -> Played
+        requires { IsStep moment.now }
+        ensures plays { (state : CoreState) → Agrees self.old.core state → (waiting : List ℕ) → Fed self.old.assembler waiting →
+            Plays (sections state (events_of waiting (step_line moment.now))) result (K.held output.old) (K.held output.new) }
+        ensures core { result ≡ Played.Ok → (state : CoreState) → Agrees self.old.core state → (waiting : List ℕ) → Fed self.old.assembler waiting →
+            Agrees self.new.core (after_all state (events_of waiting (step_line moment.now))) }
+        ensures fed { result ≡ Played.Ok → (waiting : List ℕ) → Fed self.old.assembler waiting →
+            Fed self.new.assembler (waits_after waiting (step_line moment.now)) }
+        ensures cause { result ≡ Played.WriteFault → Rose (K.faults output.old) (K.faults output.new) }
+        ensures count { K.faults output.old ≤ K.faults output.new }
+    {
+        match moment.text {
+            Some(text) => {
+                if feed_line(&mut self.assembler, text) {
+                    self.play_command(moment.tick, output, steps)
+                } else {
+                    Played::Ok
+                }
+            }
+            None => match self.core.apply(&Event::Advance { to: moment.tick }, steps) {
+                Ok(_) => Played::Ok,
+                Err(_) => Played::OutOfMemory,
+            },
+        }
     }
-}
 
-/// The text with its newline.
-fn whole_line(alloc: Global, text: &[u8]) -> Result<Text, OutOfMemory>
-    ensures { IfOk result (λ line. line ≡ text.now ++ 10 ∷ []) }
-{
-    let mut line = Text::new(alloc);
-    line.append(text)?;
-    line.append(b"\n")?;
-    Ok(line)
+    /// Plays the command that is whole: the box goes to this tick, and then the session sends it.
+    fn play_command<K: Sink, L: Ledger>(
+        &mut self,
+        tick: u64,
+        output: &mut K,
+        steps: &mut Steps<L>,
+    ) -> Played
+        requires small { tick < 2 ^ 62 }
+        requires whole { HasWhole self.old.assembler }
+        ensures plays { (state : CoreState) → Agrees self.old.core state → (bytes : List ℕ) → Completed self.old.assembler bytes →
+            Plays (written (after state (events.Advance tick)) (sent 1 bytes)) result (K.held output.old) (K.held output.new) }
+        ensures core { result ≡ Played.Ok → (state : CoreState) → Agrees self.old.core state → (bytes : List ℕ) → Completed self.old.assembler bytes →
+            Agrees self.new.core (after (after state (events.Advance tick)) (sent 1 bytes)) }
+        ensures assembler { self.new.assembler ≡ self.old.assembler }
+        ensures cause { result ≡ Played.WriteFault → Rose (K.faults output.old) (K.faults output.new) }
+        ensures count { K.faults output.old ≤ K.faults output.new }
+    {
+        match self.core.apply(&Event::Advance { to: tick }, steps) {
+            Ok(_) => self.send_command(output, steps),
+            Err(_) => Played::OutOfMemory,
+        }
+    }
+
+    /// The session sends the command that is whole.
+    fn send_command<K: Sink, L: Ledger>(&mut self, output: &mut K, steps: &mut Steps<L>) -> Played
+        requires { HasWhole self.old.assembler }
+        ensures plays { (state : CoreState) → Agrees self.old.core state → (bytes : List ℕ) → Completed self.old.assembler bytes →
+            Plays (written state (sent 1 bytes)) result (K.held output.old) (K.held output.new) }
+        ensures core { result ≡ Played.Ok → (state : CoreState) → Agrees self.old.core state → (bytes : List ℕ) → Completed self.old.assembler bytes →
+            Agrees self.new.core (after state (sent 1 bytes)) }
+        ensures assembler { self.new.assembler ≡ self.old.assembler }
+        ensures cause { result ≡ Played.WriteFault → Rose (K.faults output.old) (K.faults output.new) }
+        ensures count { K.faults output.old ≤ K.faults output.new }
+    {
+        let command = mem::replace(&mut self.command, Text::new(self.alloc));
+        let event = match whole_event(&self.assembler, command) {
+            Ok(event) => event,
+            Err(_) => return Played::OutOfMemory,
+        };
+        let tick = self.core.now();
+        match self.core.apply(&event, steps) {
+            Ok(answer) => {
+                self.command = text_of(event, self.alloc);
+                write_section(tick, 1, answer.bytes(), &mut self.section, output)
+            }
+            Err(_) => Played::OutOfMemory,
+        }
+    }
 }

@@ -1,4 +1,5 @@
-ghost use Rattle.std.specs.Prelude.{◌<◌, ◌^◌, All};
+ghost use Rattle.std.specs.Prelude.{All};
+ghost use Rattle.panda_sim.specs.Steps.{IsStep};
 
 use pb_stim::Stimulus;
 
@@ -19,5 +20,5 @@ pub(crate) struct Script<'a> {
     pub(crate) last: u64,
     /// The end has come.
     pub(crate) ended: bool,
-    ghost small: { All (λ step. step.tick < 2 ^ 62) steps.items },
+    ghost sound: { All IsStep steps.items },
 }

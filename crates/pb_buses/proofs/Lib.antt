@@ -3,3 +3,4 @@ pub mod DelayLemmas
 pub mod LineLemmas
 pub mod RuleLemmas
 pub mod WordLemmas
+pub mod CoastLemmas

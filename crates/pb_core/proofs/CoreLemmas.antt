@@ -10,7 +10,7 @@ use Rattle.pb_model.specs.Tick.{Standing, Box, IsInputEntry, opening_box}
 use Rattle.pb_model.specs.Tick as model
 use Rattle.pb_model.specs.Kept.{Kept, stands_of}
 use Rattle.pb_model.specs.Kept as boxes
-use Rattle.pb_model.proofs.AgreeLemmas.{change_agrees}
+use Rattle.pb_model.proofs.AgreeLemmas.{change_agrees, table_agrees}
 use Rattle.pb_config.specs.Settings.{Settings}
 use Rattle.pb_config.specs.Assigning.{assigned, change_of}
 use Rattle.pb_core.specs.Tick.{stimulated, tick, ticks}
@@ -18,8 +18,9 @@ use Rattle.pb_core.specs.Core.{CoreState, with_box}
 use Rattle.pb_core.specs.Kept.{KeptCore, Agrees}
 use Rattle.pb_core.specs.Current.{IsCurrent, values_at, with_values}
 use Rattle.pb_core.specs.Assignments.{Given, changed_by, assignment}
-use Rattle.pb_core.specs.Answer.{left_by, said_answer, said_after, advanced}
-use Rattle.pb_core.specs.Helpers.{kept_changed_by, kept_left_by, kept_said_after}
+use Rattle.pb_core.specs.Answer.{left_by, written_by, said_answer, said_after, advanced}
+use Rattle.pb_core.specs.Helpers.{kept_changed_by, kept_left_by, kept_written_by, kept_said_after}
+use Rattle.pb_core.specs.Writing.{Written, table_write}
 use Rattle.pb_core.proofs.LevelLemmas.{values_at-front, values_at-later}
 use Rattle.pb_core.proofs.PutLemmas.{values_agree}
 
@@ -120,12 +121,20 @@ left_agrees kept core (Ok new) h =
       box = changed_agrees (change_of new.slot new.raw) kept.box core.box h.box;
     }
 
+written_agrees : (kept : KeptCore) (core : CoreState) (r : Result Written Refusal) → Agrees kept core → Agrees (kept_written_by kept r) (written_by core r)
+written_agrees kept core (Err refusal) h = h
+written_agrees kept core (Ok new) h =
+    record { rows = h.rows; settings = h.settings; box = table_agrees kept.box core.box new.number new.words h.box }
+
 pub said_agrees : (kept : KeptCore) (core : CoreState) (said : Said) → Agrees kept core → Agrees (kept_said_after kept said) (said_after core said)
 said_agrees kept core (Query target) h = h
 said_agrees kept core (Assign target value) h =
     subst (λ (s : Settings). Agrees (kept_left_by kept (assignment kept.settings target value)) (left_by core (assignment s target value)))
     h.settings (left_agrees kept core (assignment kept.settings target value) h)
-said_agrees kept core (Table target append base64 body) h = h
+said_agrees kept core (Table target append base64 body) h =
+    subst (λ (s : Standing).
+    Agrees (kept_written_by kept (table_write (stands_of kept.box) target append base64 body)) (written_by core (table_write s target append base64 body)))
+    h.box.stands (written_agrees kept core (table_write (stands_of kept.box) target append base64 body) h)
 said_agrees kept core (Echo text) h = h
 said_agrees kept core (Bad refusal) h = h
 

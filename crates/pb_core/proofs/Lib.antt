@@ -1,8 +1,10 @@
 pub mod CoreLemmas
 pub mod FieldLemmas
+pub mod HoldingLemmas
 pub mod LevelLemmas
 pub mod NamingLemmas
 pub mod PutLemmas
 pub mod ReachedLemmas
 pub mod MuxLemmas
 pub mod MuxedLemmas
+pub mod TableLemmas

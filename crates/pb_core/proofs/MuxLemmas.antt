@@ -104,7 +104,7 @@ one_mux u t m n e f =
 
 -- The input at its places.
 
-abbrev at : List Block → Slot → BitInput
+abbrev pub at : List Block → Slot → BitInput
 at blocks slot = get_or (get_or blocks (place_in machines (block_of_slot slot)) (opening_block slot.block)).bits slot.field opening_input
 
 pub input_is : (blocks : List Block) (slot : Slot) → length blocks ≡ 35 → IsMux slot → input_of blocks slot ≡ at blocks slot
@@ -136,7 +136,7 @@ all_got [] i d all h = absurd (omega arith)
 all_got (x ∷ xs) zero d all h = all.0
 all_got (x ∷ xs) (suc i) d all h = all_got xs i d all.1 (omega arith)
 
-all_set : (xs : List Block) (i : ℕ) (f : Block → Block) (d : Block) → ((b : Block) → length (f b).bits ≡ length b.bits) → AllByRecursion (λ (b : Block). length b.bits ≡ 5) xs → AllByRecursion (λ (b : Block). length b.bits ≡ 5) (set xs i (f (get_or xs i d)))
+pub all_set : (xs : List Block) (i : ℕ) (f : Block → Block) (d : Block) → ((b : Block) → length (f b).bits ≡ length b.bits) → AllByRecursion (λ (b : Block). length b.bits ≡ 5) xs → AllByRecursion (λ (b : Block). length b.bits ≡ 5) (set xs i (f (get_or xs i d)))
 all_set [] zero f d h all = tt
 all_set [] (suc i) f d h all = tt
 all_set (x ∷ xs) zero f d h all = (h x ∙ all.0, all.1)
@@ -169,7 +169,7 @@ here_list (x ∷ xs) zero p d e g h all few =
     get_or-set_same x.bits p (g (get_or x.bits p opening_input)) opening_input (omega (arith, all.0, few))
 here_list (x ∷ xs) (suc k) p d e g h all few = here_list xs k p d e g (omega arith) all.1 few
 
-keeps_list : (h : BitInput → ℕ) (f : Block → Block) → ((b : Block) (q : ℕ) → h (get_or (f b).bits q opening_input) ≡ h (get_or b.bits q opening_input)) →
+pub keeps_list : (h : BitInput → ℕ) (f : Block → Block) → ((b : Block) (q : ℕ) → h (get_or (f b).bits q opening_input) ≡ h (get_or b.bits q opening_input)) →
     (xs : List Block) (k j q : ℕ) (d e : Block) →
     h (get_or (get_or (set xs k (f (get_or xs k d))) j e).bits q opening_input) ≡ h (get_or (get_or xs j e).bits q opening_input)
 keeps_list h f same [] zero j q d e = refl

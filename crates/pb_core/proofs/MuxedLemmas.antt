@@ -34,7 +34,9 @@ use Rattle.pb_core.specs.Tick.{tick, ticks}
 use Rattle.pb_core.specs.Core.{CoreState, opening}
 use Rattle.pb_core.specs.Naming.{named_by}
 use Rattle.pb_core.specs.Assignments.{given, changed_by, named_given}
-use Rattle.pb_core.specs.Answer.{left_by, said_after, after, after_all}
+use Rattle.pb_core.specs.Writing.{Written, table_write}
+use Rattle.pb_core.specs.Answer.{left_by, said_after, after, after_all, written_by}
+use Rattle.pb_core.proofs.TableLemmas.{holds_table}
 use Rattle.pb_core.specs.Muxes.{IsMux, delay_of, MuxesAreSet}
 use Rattle.pb_core.proofs.MuxLemmas.{Holds, holds_first, holds_tick, holds_delayed, holds_own, holds_same, input_is, mux_type}
 use Rattle.pb_core.proofs.ReachedLemmas.{IsSlotThere, IsFound, found_by}
@@ -169,11 +171,16 @@ left core text (Err refusal) f h = h
 left core text (Ok (names.Value slot)) f h = slot_left core slot text (raw_given core.settings slot text) refl f h
 left core text (Ok named) f h = h
 
+table_left : (core : CoreState) (r : Result Written Refusal) → Stands core → Stands (written_by core r)
+table_left core (Ok new) h =
+    record { reached = h.reached; held = holds_table core.settings core.box.stands.blocks new.number new.words h.held }
+table_left core (Err refusal) h = h
+
 said_left : (core : CoreState) (said : Said) → Stands core → Stands (said_after core said)
 unfolding named_by
 said_left core (Query target) h = h
 said_left core (Assign target value) h = left core value (named_by target) (found_by target (after_front (codes "*") target)) h
-said_left core (Table target append base64 body) h = h
+said_left core (Table target append base64 body) h = table_left core (table_write core.box.stands target append base64 body) h
 said_left core (Echo text) h = h
 said_left core (Bad refusal) h = h
 
@@ -183,6 +190,7 @@ ticks_left (suc n) settings rows box h = ticks_left n settings rows (tick rows b
 
 event_left : (core : CoreState) (event : Event) → Stands core → Stands (after core event)
 event_left core (events.Line id text) h = said_left core (command_of text) h
+event_left core (events.Bad id refusal) h = h
 event_left core (events.Advance to) h =
     record { reached = h.reached; held = ticks_left (to - core.box.stands.tick) core.settings core.rows core.box h.held }
 

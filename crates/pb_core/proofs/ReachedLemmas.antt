@@ -19,7 +19,8 @@ use Rattle.pb_core.specs.declared.events.Event.TheVariants as events
 use Rattle.pb_core.specs.Core.{CoreState, opening}
 use Rattle.pb_core.specs.Naming.{is_same, has_point, labels_named, star_named, listing_named, block_named, named_by}
 use Rattle.pb_core.specs.Assignments.{given, named_given}
-use Rattle.pb_core.specs.Answer.{left_by, said_after, after, after_all}
+use Rattle.pb_core.specs.Writing.{Written, table_write}
+use Rattle.pb_core.specs.Answer.{left_by, written_by, said_after, after, after_all}
 
 -- where a value is named, it is a slot
 
@@ -97,16 +98,21 @@ left core text (Ok (names.Value slot)) f h =
     subst IsReached (slot_left core slot text (raw_given core.settings slot text)) (by_assignment core.settings slot text f h)
 left core text (Ok named) f h = h
 
+table_left : (core : CoreState) (r : Result Written Refusal) → IsReached core.settings → IsReached (written_by core r).settings
+table_left core (Ok new) h = h
+table_left core (Err refusal) h = h
+
 said_left : (core : CoreState) (said : Said) → IsReached core.settings → IsReached (said_after core said).settings
 unfolding named_by
 said_left core (Query target) h = h
 said_left core (Assign target value) h = left core value (named_by target) (found_by target (after_front (codes "*") target)) h
-said_left core (Table target append base64 body) h = h
+said_left core (Table target append base64 body) h = table_left core (table_write core.box.stands target append base64 body) h
 said_left core (Echo text) h = h
 said_left core (Bad refusal) h = h
 
 event_left : (core : CoreState) (event : Event) → IsReached core.settings → IsReached (after core event).settings
 event_left core (events.Line id text) h = said_left core (command_of text) h
+event_left core (events.Bad id refusal) h = h
 event_left core (events.Advance to) h = h
 
 all_left : (core : CoreState) (happened : List Event) → IsReached core.settings → IsReached (after_all core happened).settings

@@ -1,7 +1,6 @@
 -- One event: what it answers, and what it leaves.
 use Rattle.std.specs.Prelude.{ℕ, ◌-◌, ◌<◌, ◌^◌, max, List, [], ◌∷◌, Result, Ok, Err, codes}
 use Rattle.pb_words.specs.declared.Refusal.{Refusal}
-use Rattle.pb_words.specs.declared.Refusal.TheVariants as refusals
 use Rattle.pb_words.specs.Refusals.{line_of}
 use Rattle.pb_grammar.specs.Grammar.{Said, Query, Assign, Table, Echo, Bad, command_of}
 use Rattle.pb_replies.specs.Replies.{value_reply}
@@ -15,8 +14,7 @@ use Rattle.pb_core.specs.Tick.{ticks}
 pub use Rattle.pb_core.specs.Core.{CoreState, opening, with_box}
 use Rattle.pb_core.specs.Queries.{query_reply}
 use Rattle.pb_core.specs.Assignments.{Given, with_given, assignment}
-use Rattle.pb_core.specs.Naming.{named_by}
-use Rattle.pb_core.specs.declared.targets.Named.{Named}
+use Rattle.pb_core.specs.Writing.{Written, with_written, table_write}
 
 -- Commands.
 
@@ -26,7 +24,7 @@ replied (Ok reply) = answers.Reply reply
 replied (Err refusal) = answers.Error refusal
 
 -- that it is done, or a refusal
-abbrev pub done : Result Given Refusal → Answer
+abbrev pub done : {X : Type 0} → Result X Refusal → Answer
 done (Ok new) = answers.Ok
 done (Err refusal) = answers.Error refusal
 
@@ -35,24 +33,25 @@ abbrev pub left_by : CoreState → Result Given Refusal → CoreState
 left_by core (Ok new) = with_given core new
 left_by core (Err refusal) = core
 
--- why the table of a target isn't written: no target has one yet
-abbrev pub table_refusal : Result Named Refusal → Refusal
-table_refusal (Ok named) = refusals.NotWriteable
-table_refusal (Err refusal) = refusal
+-- the core where a table write left these words, or as it was
+abbrev pub written_by : CoreState → Result Written Refusal → CoreState
+written_by core (Ok new) = with_written core new
+written_by core (Err refusal) = core
 
 -- the answer to a command, by the settings and what stands in the box
 abbrev pub said_answer : Settings → Standing → Said → Answer
 said_answer settings box (Query target) = replied (query_reply settings box target)
 said_answer settings box (Assign target value) = done (assignment settings target value)
-said_answer settings box (Table target append base64 body) = answers.Error (table_refusal (named_by target))
+said_answer settings box (Table target append base64 body) = done (table_write box target append base64 body)
 said_answer settings box (Echo text) = answers.Reply (value_reply text)
 said_answer settings box (Bad refusal) = answers.Error refusal
 
--- the core after a command: only an assignment that is accepted changes it
+-- the core after a command: only an assignment or a table write that is accepted changes it
 abbrev pub said_after : CoreState → Said → CoreState
 said_after core (Query target) = core
 said_after core (Assign target value) = left_by core (assignment core.settings target value)
-said_after core (Table target append base64 body) = core
+said_after core (Table target append base64 body) =
+    written_by core (table_write core.box.stands target append base64 body)
 said_after core (Echo text) = core
 said_after core (Bad refusal) = core
 
@@ -65,21 +64,25 @@ advanced core to = with_box core (ticks (to - core.box.stands.tick) core.rows co
 -- what may happen: the box goes to a tick below 2^62
 abbrev pub CanHappen : Event → Type 0
 CanHappen (events.Line id text) = Unit {0}
+CanHappen (events.Bad id refusal) = Unit {0}
 CanHappen (events.Advance to) = to < 2 ^ 62
 
 -- what an event answers
 abbrev pub answer : CoreState → Event → Answer
 answer core (events.Line id text) = said_answer core.settings core.box.stands (command_of text)
+answer core (events.Bad id refusal) = answers.Error refusal
 answer core (events.Advance to) = answers.Reached (max core.box.stands.tick to)
 
 -- the core after an event
 abbrev pub after : CoreState → Event → CoreState
 after core (events.Line id text) = said_after core (command_of text)
+after core (events.Bad id refusal) = core
 after core (events.Advance to) = advanced core to
 
 -- how many ticks of the box an event takes, from this tick on
 abbrev pub ticks_of : ℕ → Event → ℕ
 ticks_of now (events.Line id text) = 0
+ticks_of now (events.Bad id refusal) = 0
 ticks_of now (events.Advance to) = to - now
 
 -- the core after these events, one after the other

@@ -4,8 +4,10 @@ pub mod Kept
 pub mod Naming
 pub mod Queries
 pub mod Assignments
+pub mod Writing
 pub mod Helpers
 pub mod Answer
 pub mod Current
 pub mod Examples
+pub mod Holding
 pub mod Muxes

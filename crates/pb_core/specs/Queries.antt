@@ -1,5 +1,5 @@
 -- What a query is answered.
-use Rattle.std.specs.Prelude.{ℕ, ℤ, ◌-◌, Bool, List, [], Option, Some, None, Result, Ok, Err, codes, if◌then◌else◌}
+use Rattle.std.specs.Prelude.{ℕ, ℤ, ◌-◌, Bool, List, [], Option, Some, None, Result, Ok, Err, codes, length, decimal, if◌then◌else◌}
 use Rattle.std.specs.Option.{option_map_or, unwrap_or}
 use Rattle.pb_words.specs.declared.Refusal.{Refusal}
 use Rattle.pb_words.specs.declared.Refusal.TheVariants as refusals
@@ -18,9 +18,11 @@ use Rattle.pb_config.specs.Settings.{Settings, field_slot}
 use Rattle.pb_config.specs.Showing.{is_readable, shown_at, scaled_shown}
 use Rattle.pb_replies.specs.Replies.{value_reply, list_reply}
 use Rattle.pb_replies.specs.Lists.{block_lines, field_lines, attribute_lines, labels_at, position_lines, word_lines, row_lines}
+use Rattle.pb_replies.specs.Tables.{table_lines, base64_lines}
 use Rattle.pb_buses.specs.Buses.{selected, position}
 use Rattle.pb_model.specs.Tick.{Standing}
 use Rattle.pb_model.specs.Settings.{read_of}
+use Rattle.pb_model.specs.Tables.{table_of}
 use Rattle.pb_core.specs.declared.targets.Named.{Named}
 use Rattle.pb_core.specs.declared.targets.Named.TheVariants as names
 use Rattle.pb_core.specs.Naming.{named_by}
@@ -35,14 +37,13 @@ level_of box slot = selected box.bus (output_entry slot)
 abbrev pub position_of : Standing → Slot → ℤ
 position_of box slot = position box.bus (output_entry slot - position_bus.FIRST)
 
--- What a field that can be read is answered. A label that a block reports is its first yet, and a table is
--- empty.
+-- what a field that can be read is answered: what a block reports as a number or as its label, and a table word by word
 abbrev pub field_reply : Settings → Standing → Slot → FieldType → List ℕ
 field_reply settings box slot types.ReadUint = value_reply (shown (kind_of slot) (read_of box.blocks slot))
-field_reply settings box slot (types.ReadEnum labels) = value_reply (shown (kind_of slot) 0)
+field_reply settings box slot (types.ReadEnum labels) = value_reply (shown (kind_of slot) (read_of box.blocks slot))
 field_reply settings box slot types.BitOut = value_reply (shown (kind_of slot) (bit_raw (level_of box slot)))
 field_reply settings box slot types.PosOut = value_reply (shown (kind_of slot) (int_raw (position_of box slot)))
-field_reply settings box slot types.Table = list_reply []
+field_reply settings box slot types.Table = list_reply (table_lines (table_of box.blocks slot.instance))
 field_reply settings box slot _ = value_reply (shown_at settings slot)
 
 -- what an attribute is answered; the words of the bit bus are fields of PCAP, one after the other
@@ -50,9 +51,9 @@ abbrev pub attribute_reply : Settings → Standing → Slot → Attribute → Li
 attribute_reply settings box slot attributes.Labels = list_reply (unwrap_or (labels_at (field_slot slot)) [])
 attribute_reply settings box slot attributes.Scaled = value_reply (scaled_shown settings slot (position_of box slot))
 attribute_reply settings box slot attributes.Bits = list_reply (word_lines (slot.field - pcap.BITS0))
-attribute_reply settings box slot attributes.Length = value_reply (codes "0")
+attribute_reply settings box slot attributes.Length = value_reply (decimal (length (table_of box.blocks slot.instance)))
 attribute_reply settings box slot attributes.Fields = list_reply row_lines
-attribute_reply settings box slot attributes.Base64 = list_reply []
+attribute_reply settings box slot attributes.Base64 = list_reply (base64_lines (table_of box.blocks slot.instance))
 attribute_reply settings box slot _ = value_reply (shown_at settings slot)
 
 abbrev pub readable_reply : Settings → Standing → Slot → Option Attribute → List ℕ

@@ -1,18 +1,21 @@
-ghost use Rattle.std.specs.Prelude.{◌≡◌, ◌+◌, ◌-◌, ◌*◌, ◌<◌, ◌^◌, IfOk, OnOk, IfErr, OnErr};
+ghost use Rattle.std.specs.Prelude.{◌≡◌, ◌+◌, ◌-◌, ◌*◌, ◌<◌, ◌≤◌, ◌^◌, IfOk, OnOk, IfErr, OnErr};
 ghost use Rattle.pb_grammar.specs.Grammar.{command_of};
 ghost use Rattle.pb_buses.specs.Buses.{selected, position};
-ghost use Rattle.pb_fields.specs.Slots.{role_at};
+ghost use Rattle.pb_fields.specs.Slots.{role_at, kind_of};
+ghost use Rattle.pb_fields.specs.Values.{IsRaw};
 
-use crate::assignments::{assign, table_refusal};
+use crate::assignments::assign;
 use crate::events::{Answer, Event};
 use crate::placing::{put_rows, put_values};
 use crate::queries::query;
+use crate::writes::write;
 use pb_config::Config;
 use pb_fields::{Catalog, Role, Slot};
 use pb_grammar::{Command, parse};
 use pb_model::{BoxState, tick};
 use pb_replies::value_reply;
 use pb_stim::Stimulus;
+use pb_tables::Rows;
 use pb_words::{OutOfMemory, Steps};
 use std::alloc::Global;
 use std::marker::Model;
@@ -47,13 +50,16 @@ impl Model for Core {
 impl Core {
     ghost use Rattle.pb_fields.specs.Slots.{IsSlot};
     ghost use Rattle.pb_model.specs.Kept.{stands_of};
+    ghost use Rattle.pb_names.specs.declared.seq.TheConstants as seq;
     ghost use Rattle.pb_model.specs.Settings.{read_of};
+    ghost use Rattle.pb_model.specs.Tables.{table_of};
     ghost use Rattle.pb_core.specs.Tick as definition;
     ghost use Rattle.pb_core.specs.Core.{CoreState, opening, with_box};
     ghost use Rattle.pb_core.specs.Kept.{Agrees};
     ghost use Rattle.pb_core.specs.Assignments.{slot_given};
     ghost use Rattle.pb_core.specs.Answer.{advanced, CanHappen, answer, after, ticks_of, said_answer, done, IsReply};
-    ghost use Rattle.pb_core.specs.Helpers.{kept_left_by, kept_said_after};
+    ghost use Rattle.pb_core.specs.Writing.{table_written};
+    ghost use Rattle.pb_core.specs.Helpers.{kept_left_by, kept_written_by, kept_said_after};
 
     /// The core as it opens at tick 0. Where there is no memory for its catalogue, its settings or its box,
     /// the stimulus is handed back.
@@ -108,6 +114,7 @@ impl Core {
     {
         match event {
             Event::Line { id: _, text } => self.line(text.bytes()),
+            Event::Bad { id: _, refusal } => Ok(Answer::Error(*refusal)),
             Event::Advance { to } => {
                 self.advance(*to, steps);
                 Ok(Answer::Reached { tick: self.now() })
@@ -125,9 +132,12 @@ impl Core {
         match parse(bytes) {
             Command::Query(target) => query(self, target),
             Command::Assign(target, value) => Ok(assign(self, target, value)),
-            Command::Table { target, .. } => {
-                Ok(Answer::Error(table_refusal(self.catalog(), target)))
-            }
+            Command::Table {
+                target,
+                append,
+                base64,
+                body,
+            } => { Ok(write(self, target, append, base64, body)) }
             Command::Echo(text) => Ok(Answer::Reply(value_reply(self.alloc, text)?)),
             Command::Bad(refusal) => Ok(Answer::Error(refusal)),
         }
@@ -178,6 +188,36 @@ impl Core {
         }
     }
 
+    /// The table of the sequencer of this number, 1 or 2, takes the words of a body. A body that is refused
+    /// changes nothing.
+    #[tactic(auto, using(crate::proofs::TableLemmas::table_done, crate::proofs::TableLemmas::table_refused, crate::proofs::TableLemmas::table_kept, crate::proofs::TableLemmas::table_current))]
+    pub(crate) fn write_table(
+        &mut self,
+        instance: u8,
+        append: bool,
+        base64: bool,
+        body: &[u8],
+    ) -> Answer
+        requires from_one { 1 ≤ instance }
+        requires in_count { instance ≤ seq.INSTANCES }
+        ensures answer { result ≡ done (table_written (stands_of self.old.box) append base64 body.now instance) }
+        ensures core { self.new ≡ kept_written_by self.old (table_written (stands_of self.old.box) append base64 body.now instance) }
+    {
+        match self.state.write_table(instance, append, base64, body) {
+            Ok(()) => Answer::Ok,
+            Err(reason) => Answer::Error(reason),
+        }
+    }
+
+    /// The table of the sequencer of this number, 1 or 2.
+    pub(crate) fn table(&self, instance: u8) -> &Rows
+        requires from_one { 1 ≤ instance }
+        requires in_count { instance ≤ seq.INSTANCES }
+        ensures { result.now ≡ table_of self.now.box.blocks instance }
+    {
+        self.state.table(instance)
+    }
+
     /// The level at this entry of the bit bus.
     pub(crate) fn level(&self, entry: u8) -> bool
         ensures { result ≡ selected self.now.box.buses.bus entry }
@@ -192,12 +232,12 @@ impl Core {
         self.state.buses().selected_position(entry)
     }
 
-    /// The number that a block reports.
+    /// The number that a block reports, or that of the label that it reports.
     pub(crate) fn read(&self, slot: Slot) -> u64
         requires slot { IsSlot slot }
         requires read { role_at slot ≡ Role.Read }
         ensures value { result ≡ read_of self.now.box.blocks slot }
-        ensures small { result < 2 ^ 32 }
+        ensures in_range { IsRaw (kind_of slot) result }
     {
         self.state.read(slot)
     }

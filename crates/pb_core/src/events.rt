@@ -7,6 +7,8 @@ use pb_words::{Refusal, Text};
 pub enum Event {
     /// Control session `id`, from 1 to 8, sends a whole command, its newline included.
     Line { id: u32, text: Text },
+    /// Control session `id`, from 1 to 8, sends a command that is refused for this reason as it is put together.
+    Bad { id: u32, refusal: Refusal },
     /// The box is stepped up to this tick, which is below 2^62.
     Advance { to: u64 },
 }

@@ -15,6 +15,7 @@ ghost use Rattle.pb_core.specs.declared.events.Event.{Event};
 ghost use Rattle.pb_core.specs.declared.events.Event.TheVariants as events;
 ghost use Rattle.pb_stim.specs.declared.Row.{Row};
 ghost use Rattle.pb_core.specs.Core.{CoreState, opening};
+ghost use Rattle.pb_core.specs.Holding.{HasSettings};
 ghost use Rattle.pb_core.specs.Muxes.{MuxesAreSet};
 ghost use Rattle.pb_core.specs.Naming.{named_by};
 ghost use Rattle.pb_core.specs.Queries.{query_reply};
@@ -70,4 +71,10 @@ pub fn settings_are_reached()
 /// have it.
 pub fn muxes_are_set()
     ensures { (rows : List Row) (happened : List Event) → MuxesAreSet (after_all (opening rows) happened) }
+{}
+
+/// In every core that events reach the box has the settings: each input selects and is delayed as they have it, and so
+/// it is with BITS and with what is set in each kind of block.
+pub fn the_box_has_the_settings()
+    ensures { (rows : List Row) (happened : List Event) → HasSettings (after_all (opening rows) happened) }
 {}

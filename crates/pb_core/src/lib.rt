@@ -14,6 +14,7 @@ mod placing;
 mod queries;
 mod targets;
 mod values;
+mod writes;
 
 pub use cores::Core;
 pub use events::{Answer, Event};
@@ -22,5 +23,5 @@ pub use examples::{
 };
 pub use laws::{
     muxes_are_set, only_done_lines_change_the_core, refusals_come_in_order, settings_are_reached,
-    unknown_star_targets_are_no_fields,
+    the_box_has_the_settings, unknown_star_targets_are_no_fields,
 };

@@ -6,7 +6,7 @@ ghost use Rattle.pb_fields.specs.Values.{IsRaw, IsShownKind, shown};
 ghost use Rattle.pb_replies.specs.Replies.{value_reply};
 ghost use Rattle.pb_model.specs.Kept.{stands_of};
 ghost use Rattle.pb_core.specs.Queries.{slot_reply, position_of};
-ghost use Rattle.pb_core.specs.Helpers.{is_label};
+ghost use Rattle.pb_core.specs.Helpers.{is_reported};
 ghost use Rattle.pb_core.specs.Answer.{replied, IsReply};
 
 use crate::cores::Core;
@@ -17,7 +17,9 @@ use pb_fields::{
     output_entry, show,
 };
 use pb_names::{pcap, position_bus};
-use pb_replies::{empty_reply, labels_reply, row_reply, value_reply, word_reply};
+use pb_replies::{
+    base64_reply, labels_reply, number_reply, row_reply, table_reply, value_reply, word_reply,
+};
 use pb_words::OutOfMemory;
 
 /// The most bytes of a value that is one line.
@@ -35,7 +37,8 @@ pub(crate) fn slot_answer(core: &Core, slot: Slot) -> Result<Answer, OutOfMemory
     }
 }
 
-/// The answer to the query of a field. A label that a block reports is its first yet, and a table is empty.
+/// The answer to the query of a field.
+#[tactic(auto, using(crate::proofs::TableLemmas::table_field))]
 fn field_answer(core: &Core, slot: Slot) -> Result<Answer, OutOfMemory>
     requires slot { IsSlot slot }
     requires field { attribute_at slot ≡ None }
@@ -43,17 +46,19 @@ fn field_answer(core: &Core, slot: Slot) -> Result<Answer, OutOfMemory>
     ensures memory { OnErr result (IsReply (replied (slot_reply core.now.settings (stands_of core.now.box) slot))) }
 {
     match field_type(slot) {
-        FieldType::ReadUint => read_answer(core, slot),
-        FieldType::ReadEnum { .. } => first_answer(core, slot),
+        FieldType::ReadUint | FieldType::ReadEnum { .. } => read_answer(core, slot),
         FieldType::BitOut => level_answer(core, slot),
         FieldType::PosOut => position_answer(core, slot),
-        FieldType::Table => Ok(Answer::Reply(empty_reply(core.alloc())?)),
+        FieldType::Table => Ok(Answer::Reply(table_reply(
+            core.alloc(),
+            core.table(slot.instance),
+        )?)),
         _ => setting_answer(core, slot),
     }
 }
 
 /// The answer to the query of an attribute.
-#[tactic(auto, using(crate::proofs::FieldLemmas::word_within))]
+#[tactic(auto, using(crate::proofs::FieldLemmas::word_within, crate::proofs::TableLemmas::table_base64))]
 fn attribute_answer(core: &Core, slot: Slot, attribute: Attribute) -> Result<Answer, OutOfMemory>
     requires slot { IsSlot slot }
     requires which { attribute_at slot ≡ Some attribute }
@@ -64,11 +69,26 @@ fn attribute_answer(core: &Core, slot: Slot, attribute: Attribute) -> Result<Ans
         Attribute::Labels => Ok(Answer::Reply(labels_reply(core.alloc(), field_slot(slot))?)),
         Attribute::Scaled => scaled_answer(core, slot),
         Attribute::Bits => Ok(Answer::Reply(word_reply(core.alloc(), slot.field - pcap::BITS0)?)),
-        Attribute::Length => Ok(Answer::Reply(value_reply(core.alloc(), b"0")?)),
+        Attribute::Length => length_answer(core, slot),
         Attribute::Fields => Ok(Answer::Reply(row_reply(core.alloc())?)),
-        Attribute::Base64 => Ok(Answer::Reply(empty_reply(core.alloc())?)),
+        Attribute::Base64 => Ok(Answer::Reply(base64_reply(
+            core.alloc(),
+            core.table(slot.instance),
+        )?)),
         _ => setting_answer(core, slot),
     }
+}
+
+/// How many words a table has.
+#[tactic(auto, using(crate::proofs::TableLemmas::table_length))]
+fn length_answer(core: &Core, slot: Slot) -> Result<Answer, OutOfMemory>
+    requires slot { IsSlot slot }
+    requires which { attribute_at slot ≡ Some Attribute.Length }
+    ensures ok { IfOk result (λ told. told ≡ replied (slot_reply core.now.settings (stands_of core.now.box) slot)) }
+    ensures memory { OnErr result (IsReply (replied (slot_reply core.now.settings (stands_of core.now.box) slot))) }
+{
+    let length = core.table(slot.instance).len() as u64;
+    Ok(Answer::Reply(number_reply(core.alloc(), length)?))
 }
 
 /// The value that the settings or the catalogue have.
@@ -85,28 +105,16 @@ fn setting_answer(core: &Core, slot: Slot) -> Result<Answer, OutOfMemory>
     }
 }
 
-/// The number that a block reports.
-#[tactic(auto, using(crate::proofs::FieldLemmas::number_read, crate::proofs::FieldLemmas::number_within))]
+/// What a block reports: a number, or a label.
+#[tactic(auto, using(crate::proofs::FieldLemmas::reported_read, crate::proofs::FieldLemmas::reported_shown))]
 fn read_answer(core: &Core, slot: Slot) -> Result<Answer, OutOfMemory>
     requires slot { IsSlot slot }
     requires field { attribute_at slot ≡ None }
-    requires number { type_at slot ≡ FieldType.ReadUint }
+    requires reported { is_reported (type_at slot) ≡ true }
     ensures ok { IfOk result (λ told. told ≡ replied (slot_reply core.now.settings (stands_of core.now.box) slot)) }
     ensures memory { OnErr result (IsReply (replied (slot_reply core.now.settings (stands_of core.now.box) slot))) }
 {
     raw_answer(core, kind(slot), core.read(slot))
-}
-
-/// The label that a block reports, which is its first yet.
-#[tactic(auto, using(crate::proofs::FieldLemmas::first_within, crate::proofs::FieldLemmas::label_shown))]
-fn first_answer(core: &Core, slot: Slot) -> Result<Answer, OutOfMemory>
-    requires slot { IsSlot slot }
-    requires field { attribute_at slot ≡ None }
-    requires label { is_label (type_at slot) ≡ true }
-    ensures ok { IfOk result (λ told. told ≡ replied (slot_reply core.now.settings (stands_of core.now.box) slot)) }
-    ensures memory { OnErr result (IsReply (replied (slot_reply core.now.settings (stands_of core.now.box) slot))) }
-{
-    raw_answer(core, kind(slot), 0)
 }
 
 /// The level of an output.

@@ -11,3 +11,4 @@ pub mod TableLemmas
 pub mod ScanLemmas
 pub mod StreamLemmas
 pub mod StageLemmas
+pub mod WholeLemmas

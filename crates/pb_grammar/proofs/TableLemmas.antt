@@ -22,7 +22,7 @@ none_in (b ∷ bs) h =
     and_from (not (b == 10)) (list_all (λ c. not (c == 10)) bs)
     (not_from_false (b == 10) (ne_eqb b 10 (All-head (λ d. d ≢ 10) b bs h))) (none_in bs (All-tail (λ d. d ≢ 10) b bs h))
 
-text_from : (text : List ℕ) → list_all (λ b. not (b == 10)) text ≡ true → IsText text
+pub text_from : (text : List ℕ) → list_all (λ b. not (b == 10)) text ≡ true → IsText text
 text_from [] h = All-nil (λ d. d ≢ 10)
 text_from (b ∷ bs) h =
     let parts = and_parts (not (b == 10)) (list_all (λ c. not (c == 10)) bs) h in
@@ -32,7 +32,7 @@ text_from (b ∷ bs) h =
 pub newline_after : (text rest : List ℕ) → IsText text → position (λ b. b == 10) (text ++ 10 ∷ rest) ≡ Some (length text)
 newline_after text rest h = position-after (λ b. b == 10) text 10 rest (none_in text h) refl
 
-drop_newline : (text rest : List ℕ) → drop (length text + 1) (text ++ 10 ∷ rest) ≡ rest
+pub drop_newline : (text rest : List ℕ) → drop (length text + 1) (text ++ 10 ∷ rest) ≡ rest
 drop_newline [] rest = refl
 drop_newline (b ∷ bs) rest =
     let e : suc (length bs) + 1 ≡ suc (length bs + 1) = omega arith in

@@ -1,6 +1,7 @@
 -- Streams: which bytes are whole commands, one after the other.
-use Rattle.std.specs.Prelude.{◌≡◌, ℕ, ◌⊎◌, List, [], ◌∷◌, ◌++◌}
-use Rattle.pb_grammar.specs.Grammar.{IsLine, IsTable, Opening, Opens}
+use Rattle.std.specs.Prelude.{◌≡◌, ℕ, ◌+◌, ◌==◌, ◌⊎◌, Bool, true, false, List, [], ◌∷◌, ◌++◌, length, take, drop, position, Option, Some, None}
+use Rattle.std.specs.Option.{option_map_or}
+use Rattle.pb_grammar.specs.Grammar.{IsLine, IsTable, Opening, Opens, opening_in, body_of, rows}
 
 -- a line that opens no body is whole at its newline
 pub record IsWholeLine (bytes : List ℕ) : Type 0 where
@@ -27,3 +28,16 @@ abbrev pub Commands : List ℕ → List (List ℕ) → List ℕ → Type 0
 Commands stream [] rest = (stream ≡ rest) × IsBegun rest
 Commands stream (command ∷ list) rest =
     (more : List ℕ) × IsWhole command × (stream ≡ command ++ more) × Commands more list rest
+
+-- The same, computed.
+
+-- the first line is whole with this behind its newline: nothing, or where it opens a body the body and the empty line
+abbrev pub is_whole_with : Option Opening → List ℕ → Bool
+is_whole_with None behind = length behind == 0
+is_whole_with (Some opening) behind = option_map_or (λ lines. true) (body_of (rows behind)) false
+
+-- whether the bytes are one whole command
+unfoldable pub is_whole : List ℕ → Bool
+is_whole bytes =
+    option_map_or (λ place. is_whole_with (opening_in (take place bytes)) (drop (place + 1) bytes))
+    (position (λ b. b == 10) bytes) false

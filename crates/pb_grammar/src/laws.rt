@@ -1,5 +1,5 @@
-ghost use Rattle.std.specs.Prelude.{◌≡◌, ◌++◌, ◌∷◌, [], ℕ, List};
-ghost use Rattle.pb_grammar.specs.Streams.{IsWhole, Commands};
+ghost use Rattle.std.specs.Prelude.{◌≡◌, ◌++◌, ◌∷◌, [], ℕ, List, ◌↔◌, true};
+ghost use Rattle.pb_grammar.specs.Streams.{IsWhole, Commands, is_whole};
 
 /// A stream is one list of commands and one rest.
 pub fn streams_have_one_list()
@@ -13,4 +13,10 @@ pub fn streams_grow_by_a_byte()
     ensures empty { Commands [] [] [] }
     ensures whole { (stream : List ℕ) (list : List (List ℕ)) (rest : List ℕ) (byte : ℕ) → Commands stream list rest → IsWhole (rest ++ byte ∷ []) → Commands (stream ++ byte ∷ []) (list ++ (rest ++ byte ∷ []) ∷ []) [] }
     ensures begun { (stream : List ℕ) (list : List (List ℕ)) (rest : List ℕ) (byte : ℕ) → Commands stream list rest → ¬ (IsWhole (rest ++ byte ∷ [])) → Commands (stream ++ byte ∷ []) list (rest ++ byte ∷ []) }
+{}
+
+/// Whether bytes are one whole command can be computed, and the last of them is a newline.
+pub fn whole_commands_are_computed()
+    ensures computed { (bytes : List ℕ) → (is_whole bytes ≡ true) ↔ IsWhole bytes }
+    ensures ended { (seen : List ℕ) (byte : ℕ) → IsWhole (seen ++ byte ∷ []) → byte ≡ 10 }
 {}

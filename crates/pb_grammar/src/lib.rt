@@ -13,5 +13,5 @@ mod targets;
 
 pub use assembling::Assembler;
 pub use commands::{Command, commands_by_example, commands_have_one_meaning, parse};
-pub use laws::{streams_grow_by_a_byte, streams_have_one_list};
+pub use laws::{streams_grow_by_a_byte, streams_have_one_list, whole_commands_are_computed};
 pub use targets::{targets_are_computed, targets_are_read_in_one_way};

@@ -1,1 +1,3 @@
 pub mod RemainderLemmas
+pub mod DeadlineLemmas
+pub mod ClockLemmas

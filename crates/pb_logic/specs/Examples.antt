@@ -89,6 +89,10 @@ abbrev pub clock : ℕ → ℕ → clock_rules.ClockState
 clock period width =
     record { settings = record { period = period; width = width }; registers = clock_rules.opening.registers }
 
--- whether it is high after so many ticks with ENABLE at 1
+-- the same after so many ticks with ENABLE at 1
+abbrev pub clock_after : ℕ → ℕ → ℕ → clock_rules.ClockState
+clock_after period width ticks = after clock_rules.rules idle 0 ticks (clock period width)
+
+-- whether it is high then
 abbrev pub clock_shows : ℕ → ℕ → ℕ → Bool
-clock_shows period width ticks = (after clock_rules.rules idle 0 ticks (clock period width)).registers.out
+clock_shows period width ticks = (clock_after period width ticks).registers.out

@@ -1,4 +1,6 @@
-ghost use Rattle.std.specs.Prelude.{◌≡◌};
+ghost use Rattle.std.specs.Prelude.{◌≡◌, ◌<◌, ◌≤◌, ◌+◌, ◌-◌, ◌%◌, ◌^◌, ℕ, min, true};
+ghost use Rattle.pb_buses.specs.Rules.{IsHorizon, AreCalm, after};
+ghost use Rattle.pb_buses.specs.declared.Inputs.{Inputs};
 
 use pb_buses::{Emit, Inputs, Machine, Outputs};
 use pb_names::clock;
@@ -57,6 +59,45 @@ impl Clock {
             },
         }
     }
+
+    /// How many steps under these inputs are calm before the first that isn't; none where all are calm.
+    pub fn horizon<L: Ledger>(
+        &self,
+        inputs: &Inputs,
+        tick: u64,
+        steps: &mut Steps<L>,
+    ) -> Option<u128>
+        requires { tick < 2 ^ 62 }
+        ensures horizon { IsHorizon definition.rules inputs.now tick self.now result }
+        ensures counts { steps.new ≡ steps.old + 1 }
+    {
+        steps.tick();
+        if inputs.bits[clock::ENABLE as usize] {
+            self.registers.calm_ticks(&self.settings)
+        } else if self.registers.out {
+            Some(0)
+        } else {
+            None
+        }
+    }
+
+    /// So many steps at once, all of them calm.
+    pub fn coast<L: Ledger>(&mut self, inputs: &Inputs, tick: u64, ticks: u64, steps: &mut Steps<L>)
+        requires calm { AreCalm definition.rules inputs.now tick ticks self.old }
+        requires end { tick + ticks ≤ 2 ^ 62 }
+        ensures left { self.new ≡ after definition.rules inputs.now tick ticks self.old }
+        ensures counts { steps.new ≡ steps.old + 1 }
+    {
+        steps.tick();
+        if ticks == 0 {
+            return;
+        }
+        if inputs.bits[clock::ENABLE as usize] {
+            self.registers.count = self.settings.count_after(self.registers.count, ticks);
+        } else {
+            self.registers.count = 0;
+        }
+    }
 }
 
 impl ClockSettings {
@@ -77,6 +118,15 @@ impl ClockSettings {
             self.width
         }
     }
+
+    /// The count after so many ticks, of which there is one at least, where the clock is enabled.
+    fn count_after(&self, count: u64, ticks: u64) -> u64
+        ensures { result ≡ (min count (definition.period_of self.now - 1) + ticks) % definition.period_of self.now }
+    {
+        let period = self.period();
+        let ticks = u128::from(count.min(period - 1)) + u128::from(ticks);
+        (ticks % u128::from(period)) as u64
+    }
 }
 
 impl ClockRegisters {
@@ -91,6 +141,28 @@ impl ClockRegisters {
             count: if is_last { 0 } else { self.count + 1 },
             out: self.count < settings.width(),
         }
+    }
+
+    /// How many steps are calm before the output turns, where the clock is enabled.
+    fn calm_ticks(self, settings: &ClockSettings) -> Option<u128>
+        ensures { (inputs : Inputs) (tick : ℕ) → definition.enable inputs ≡ true
+            → IsHorizon definition.rules inputs tick (record { settings = settings.now; registers = self }) result }
+    {
+        let period = settings.period();
+        let width = settings.width();
+        if !self.out {
+            if self.count < width {
+                return Some(0);
+            }
+            return Some(u128::from(period.saturating_sub(self.count).max(1)));
+        }
+        if self.count >= width {
+            return Some(0);
+        }
+        if width >= period {
+            return None;
+        }
+        Some(u128::from(width - self.count))
     }
 }
 

@@ -1,5 +1,6 @@
-ghost use Rattle.std.specs.Prelude.{◌≡◌, ◌≤ℤ◌, ◌<ℤ◌, ◌+ℤ◌, ◌-ℤ◌, IsTrue, FitsSigned, pos};
+ghost use Rattle.std.specs.Prelude.{◌≡◌, ◌<◌, ◌≤◌, ◌+◌, ◌^◌, ◌≤ℤ◌, ◌<ℤ◌, ◌+ℤ◌, ◌-ℤ◌, IsTrue, FitsSigned, pos};
 ghost use Rattle.std.specs.Int.{w32, int_rem_euclid};
+ghost use Rattle.pb_buses.specs.Rules.{IsHorizon, AreCalm, after};
 
 use pb_buses::{Emit, Inputs, Machine, Outputs};
 use pb_names::counter;
@@ -68,6 +69,46 @@ impl Counter {
                 enable_before: false,
                 trig_before: false,
             },
+        }
+    }
+
+    /// How many steps under these inputs are calm before the first that isn't; none where all are calm.
+    pub fn horizon<L: Ledger>(
+        &self,
+        inputs: &Inputs,
+        tick: u64,
+        steps: &mut Steps<L>,
+    ) -> Option<u128>
+        requires { tick < 2 ^ 62 }
+        ensures horizon { IsHorizon definition.rules inputs.now tick self.now result }
+        ensures counts { steps.new ≡ steps.old + 1 }
+    {
+        steps.tick();
+        if self.registers_after(inputs) == self.registers {
+            None
+        } else {
+            Some(0)
+        }
+    }
+
+    /// So many steps at once, all of them calm.
+    pub fn coast<L: Ledger>(&mut self, inputs: &Inputs, tick: u64, ticks: u64, steps: &mut Steps<L>)
+        requires calm { AreCalm definition.rules inputs.now tick ticks self.old }
+        requires end { tick + ticks ≤ 2 ^ 62 }
+        ensures left { self.new ≡ after definition.rules inputs.now tick ticks self.old }
+        ensures counts { steps.new ≡ steps.old + 1 }
+    {
+        steps.tick();
+    }
+
+    /// The registers one tick later.
+    fn registers_after(&self, inputs: &Inputs) -> CounterRegisters
+        ensures { result ≡ definition.registers_after self.now inputs.now }
+    {
+        CounterRegisters {
+            enable_before: inputs.bits[counter::ENABLE as usize],
+            trig_before: inputs.bits[counter::TRIG as usize],
+            ..self.registers.counted_after(&self.settings, inputs)
         }
     }
 }
@@ -241,11 +282,7 @@ impl Machine for Counter {
 
     fn step<L: Ledger>(&mut self, inputs: &Inputs, tick: u64, steps: &mut Steps<L>) -> Emit {
         steps.tick();
-        self.registers = CounterRegisters {
-            enable_before: inputs.bits[counter::ENABLE as usize],
-            trig_before: inputs.bits[counter::TRIG as usize],
-            ..self.registers.counted_after(&self.settings, inputs)
-        };
+        self.registers = self.registers_after(inputs);
         Emit::Nothing
     }
 

@@ -1,4 +1,5 @@
-ghost use Rattle.std.specs.Prelude.{◌≡◌, ◌<◌, ◌^◌};
+ghost use Rattle.std.specs.Prelude.{◌≡◌, ◌<◌, ◌≤◌, ◌+◌, ◌^◌};
+ghost use Rattle.pb_buses.specs.Rules.{IsHorizon, AreCalm, after};
 
 use pb_buses::{Emit, Inputs, Machine, Outputs};
 use pb_names::{div, first_pulse};
@@ -80,6 +81,46 @@ impl Div {
         match field {
             div::COUNT => u64::from(self.registers.count),
             _ => unreachable!(),
+        }
+    }
+
+    /// How many steps under these inputs are calm before the first that isn't; none where all are calm.
+    pub fn horizon<L: Ledger>(
+        &self,
+        inputs: &Inputs,
+        tick: u64,
+        steps: &mut Steps<L>,
+    ) -> Option<u128>
+        requires { tick < 2 ^ 62 }
+        ensures horizon { IsHorizon definition.rules inputs.now tick self.now result }
+        ensures counts { steps.new ≡ steps.old + 1 }
+    {
+        steps.tick();
+        if self.registers_after(inputs) == self.registers {
+            None
+        } else {
+            Some(0)
+        }
+    }
+
+    /// So many steps at once, all of them calm.
+    pub fn coast<L: Ledger>(&mut self, inputs: &Inputs, tick: u64, ticks: u64, steps: &mut Steps<L>)
+        requires calm { AreCalm definition.rules inputs.now tick ticks self.old }
+        requires end { tick + ticks ≤ 2 ^ 62 }
+        ensures left { self.new ≡ after definition.rules inputs.now tick ticks self.old }
+        ensures counts { steps.new ≡ steps.old + 1 }
+    {
+        steps.tick();
+    }
+
+    /// The registers one tick later.
+    fn registers_after(&self, inputs: &Inputs) -> DivRegisters
+        ensures { result ≡ definition.registers_after self.now inputs.now }
+    {
+        DivRegisters {
+            enable_before: inputs.bits[div::ENABLE as usize],
+            inp_before: inputs.bits[div::INP as usize],
+            ..self.registers.divided_after(&self.settings, inputs)
         }
     }
 }
@@ -188,11 +229,7 @@ impl Machine for Div {
 
     fn step<L: Ledger>(&mut self, inputs: &Inputs, tick: u64, steps: &mut Steps<L>) -> Emit {
         steps.tick();
-        self.registers = DivRegisters {
-            enable_before: inputs.bits[div::ENABLE as usize],
-            inp_before: inputs.bits[div::INP as usize],
-            ..self.registers.divided_after(&self.settings, inputs)
-        };
+        self.registers = self.registers_after(inputs);
         Emit::Nothing
     }
 

@@ -1,11 +1,13 @@
-ghost use Rattle.std.specs.Prelude.{◌≡◌, ℕ, pos, true, false, List, [], ◌∷◌};
+ghost use Rattle.std.specs.Prelude.{◌≡◌, ℕ, ◌-◌, ◌^◌, pos, true, false, List, [], ◌∷◌, Some, None};
 ghost use Rattle.pb_buses.specs.declared.Inputs.{Inputs};
 ghost use Rattle.pb_lut.specs.Expressions.{Tree, ors, value, number};
 ghost use Rattle.pb_lut.specs.Functions.{WritesFunction, WritesTree};
 ghost use Rattle.pb_names.specs.declared.lut.TheConstants as names;
 ghost use Rattle.pb_logic.specs.Bits.{two_bits};
+ghost use Rattle.pb_buses.specs.Rules.{IsHorizon};
+ghost use Rattle.pb_logic.specs.Clock as clock;
 ghost use Rattle.pb_logic.specs.Lut as lut;
-ghost use Rattle.pb_logic.specs.Examples.{idle, pulse, pulse_down, set, both, disabled_set, counter_shows, position, div_shows, gate, gate_shows, force_set, force_rst, clock_shows};
+ghost use Rattle.pb_logic.specs.Examples.{idle, pulse, pulse_down, set, both, disabled_set, counter_shows, position, div_shows, gate, gate_shows, force_set, force_rst, clock_shows, clock_after};
 
 use pb_lut::{each_bit_is_a_value, tables_put_out_the_expression};
 
@@ -61,4 +63,12 @@ pub fn clock_by_example()
     ensures rounded_down { clock_shows 5 0 3 ≡ false }
     ensures fastest_high { clock_shows 0 0 3 ≡ true }
     ensures fastest_low { clock_shows 0 0 4 ≡ false }
+{}
+
+/// How long the output of a clock stays, where ENABLE stays at 1: one tick after it was enabled, with a period of 2^47 ticks
+/// and half of that as its width; where it is never low; and where it is low until the next period.
+pub fn clock_deadlines_by_example()
+    ensures high { IsHorizon clock.rules idle 1 (clock_after (2 ^ 47) 0 1) (Some (2 ^ 46 - 1)) }
+    ensures never_low { IsHorizon clock.rules idle 1 (clock_after 4 4 1) None }
+    ensures low { IsHorizon clock.rules idle 3 (clock_after 5 0 3) (Some 2) }
 {}

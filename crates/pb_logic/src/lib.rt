@@ -14,8 +14,8 @@ pub use clocks::{Clock, ClockRegisters, ClockSettings};
 pub use counters::{Counter, CounterRegisters, CounterSettings};
 pub use divs::{Div, DivRegisters, DivSettings, FirstPulse};
 pub use laws::{
-    clock_by_example, counter_by_example, divider_by_example, gate_by_example,
-    lut_shows_its_expression,
+    clock_by_example, clock_deadlines_by_example, counter_by_example, divider_by_example,
+    gate_by_example, lut_shows_its_expression,
 };
 pub use luts::{Lut, LutRegisters, LutSettings};
 pub use srgates::{Force, Srgate, SrgateRegisters, SrgateSettings, WhenDisabled};

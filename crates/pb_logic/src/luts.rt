@@ -1,4 +1,5 @@
-ghost use Rattle.std.specs.Prelude.{◌≡◌, ◌≤◌};
+ghost use Rattle.std.specs.Prelude.{◌≡◌, ◌≤◌, ◌<◌, ◌+◌, ◌^◌};
+ghost use Rattle.pb_buses.specs.Rules.{IsHorizon, AreCalm, after};
 ghost use Rattle.pb_lut.specs.Expressions.{bit, place};
 ghost use Rattle.pb_logic.specs.Lut.{levels};
 
@@ -48,6 +49,35 @@ impl Lut {
             settings: LutSettings { function: 0 },
             registers: LutRegisters { out: false },
         }
+    }
+
+    /// How many steps under these inputs are calm before the first that isn't; none where all are calm.
+    pub fn horizon<L: Ledger>(
+        &self,
+        inputs: &Inputs,
+        tick: u64,
+        steps: &mut Steps<L>,
+    ) -> Option<u128>
+        requires { tick < 2 ^ 62 }
+        ensures horizon { IsHorizon definition.rules inputs.now tick self.now result }
+        ensures counts { steps.new ≡ steps.old + 1 }
+    {
+        steps.tick();
+        if self.settings.output_after(inputs) == self.registers.out {
+            None
+        } else {
+            Some(0)
+        }
+    }
+
+    /// So many steps at once, all of them calm.
+    pub fn coast<L: Ledger>(&mut self, inputs: &Inputs, tick: u64, ticks: u64, steps: &mut Steps<L>)
+        requires calm { AreCalm definition.rules inputs.now tick ticks self.old }
+        requires end { tick + ticks ≤ 2 ^ 62 }
+        ensures left { self.new ≡ after definition.rules inputs.now tick ticks self.old }
+        ensures counts { steps.new ≡ steps.old + 1 }
+    {
+        steps.tick();
     }
 }
 

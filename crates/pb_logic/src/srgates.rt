@@ -1,4 +1,5 @@
-ghost use Rattle.std.specs.Prelude.{◌≡◌};
+ghost use Rattle.std.specs.Prelude.{◌≡◌, ◌<◌, ◌≤◌, ◌+◌, ◌^◌};
+ghost use Rattle.pb_buses.specs.Rules.{IsHorizon, AreCalm, after};
 
 use pb_buses::{Edge, Emit, Inputs, Machine, Outputs};
 use pb_names::{srgate, when_disabled};
@@ -79,6 +80,47 @@ impl Srgate {
             },
         }
     }
+
+    /// How many steps under these inputs are calm before the first that isn't; none where all are calm.
+    pub fn horizon<L: Ledger>(
+        &self,
+        inputs: &Inputs,
+        tick: u64,
+        steps: &mut Steps<L>,
+    ) -> Option<u128>
+        requires { tick < 2 ^ 62 }
+        ensures horizon { IsHorizon definition.rules inputs.now tick self.now result }
+        ensures counts { steps.new ≡ steps.old + 1 }
+    {
+        steps.tick();
+        if self.registers_after(inputs) == self.registers {
+            None
+        } else {
+            Some(0)
+        }
+    }
+
+    /// So many steps at once, all of them calm.
+    pub fn coast<L: Ledger>(&mut self, inputs: &Inputs, tick: u64, ticks: u64, steps: &mut Steps<L>)
+        requires calm { AreCalm definition.rules inputs.now tick ticks self.old }
+        requires end { tick + ticks ≤ 2 ^ 62 }
+        ensures left { self.new ≡ after definition.rules inputs.now tick ticks self.old }
+        ensures counts { steps.new ≡ steps.old + 1 }
+    {
+        steps.tick();
+    }
+
+    /// The registers one tick later.
+    fn registers_after(&self, inputs: &Inputs) -> SrgateRegisters
+        ensures { result ≡ definition.registers_after self.now inputs.now }
+    {
+        SrgateRegisters {
+            out: self.registers.output_after(&self.settings, inputs),
+            set_before: inputs.bits[srgate::SET as usize],
+            rst_before: inputs.bits[srgate::RST as usize],
+            pending: None,
+        }
+    }
 }
 
 impl WhenDisabled {
@@ -154,12 +196,7 @@ impl Machine for Srgate {
 
     fn step<L: Ledger>(&mut self, inputs: &Inputs, tick: u64, steps: &mut Steps<L>) -> Emit {
         steps.tick();
-        self.registers = SrgateRegisters {
-            out: self.registers.output_after(&self.settings, inputs),
-            set_before: inputs.bits[srgate::SET as usize],
-            rst_before: inputs.bits[srgate::RST as usize],
-            pending: None,
-        };
+        self.registers = self.registers_after(inputs);
         Emit::Nothing
     }
 

@@ -1,5 +1,5 @@
 -- What changes and puts leave agrees as before.
-use Rattle.std.proofs.Common.{ℕ, ◌+◌, ◌<◌, Bool, ℤ, set, sym, ap, subst, ◌∙◌}
+use Rattle.std.proofs.Common.{ℕ, ◌+◌, ◌<◌, Bool, ℤ, List, set, sym, ap, subst, ◌∙◌}
 use Rattle.pb_buses.specs.declared.Bus.{Bus}
 use Rattle.pb_buses.specs.Buses.{with_bit, with_position, AgreesWithPast, IsUnchangedAt}
 use Rattle.pb_buses.proofs.ChangeLemmas.{bit_agrees, position_agrees}
@@ -8,6 +8,7 @@ use Rattle.pb_model.specs.declared.changes.Change.TheVariants as changes
 use Rattle.pb_model.specs.Tick.{Standing, Box, put_bit, put_position}
 use Rattle.pb_model.specs.Kept.{Kept, Agrees, with_buses}
 use Rattle.pb_model.specs.Settings.{settings_with, blocks_with, changed, changed_box}
+use Rattle.pb_model.specs.Tables.{blocks_with_table, with_table, box_with_table}
 use Rattle.pb_model.proofs.BusLemmas.{bit-bus, position-bus}
 
 pub change_agrees : (kept : Kept) (box : Box) (change : Change) → Agrees kept box → Agrees (changed kept change) (changed_box box change)
@@ -19,6 +20,21 @@ change_agrees kept box (changes.Set slot raw) h =
             bus = s.bus;
             settings = settings_with slot raw s.settings;
             blocks = blocks_with slot raw s.blocks;
+          }) h.stands;
+      ticks = h.ticks;
+      changes = h.changes;
+    }
+
+pub table_agrees : (kept : Kept) (box : Box) (number : ℕ) (words : List ℕ) → Agrees kept box →
+    Agrees (with_table kept number words) (box_with_table box number words)
+table_agrees kept box number words h =
+    record {
+      stands =
+          ap (λ (s : Standing). record {
+            tick = s.tick;
+            bus = s.bus;
+            settings = s.settings;
+            blocks = blocks_with_table number words s.blocks;
           }) h.stands;
       ticks = h.ticks;
       changes = h.changes;

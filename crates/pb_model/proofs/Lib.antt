@@ -1,9 +1,17 @@
 pub mod AgreeLemmas
 pub mod BusLemmas
+pub mod HaveLemmas
 pub mod InputLemmas
 pub mod Mapped
+pub mod NamedLemmas
+pub mod PickLemmas
 pub mod PlaceLemmas
+pub mod ReadLemmas
+pub mod SettableLemmas
 pub mod SettingLemmas
 pub mod ShownLemmas
+pub mod StandLemmas
+pub mod StayLemmas
+pub mod TableLemmas
 pub mod TickLemmas
 pub mod UnitLemmas

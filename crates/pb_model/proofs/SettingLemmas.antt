@@ -54,7 +54,7 @@ nothing_taken t i h g = let e : is_taken_attribute (get_or (attributes_of t) i a
     apart : false ≡ true → ⊥
     apart x = cc
 
-delay_only : (t : FieldType) (i : ℕ) → is_taken_attribute (get_or (attributes_of t) i attributes.Info) ≡ true → IsDelay t i
+pub delay_only : (t : FieldType) (i : ℕ) → is_taken_attribute (get_or (attributes_of t) i attributes.Info) ≡ true → IsDelay t i
 delay_only types.BitMux zero h = cc
 delay_only types.BitMux (suc zero) h = (refl, refl)
 delay_only types.BitMux (suc (suc zero)) h = cc
@@ -115,10 +115,10 @@ unfolding bits_before bits_first
 bit_mux_place slot s h = chosen (is_bit_mux (type_at slot)) _ _ _ h (agree bits_before bits_first bits_stand slot s)
 
 -- a test that holds of every field
-always : ℕ → ℕ → ℕ → Option Bool
+unfoldable pub always : ℕ → ℕ → ℕ → Option Bool
 always b i f = Some true
 
-holds_by : (F : ℕ → ℕ → ℕ → Bool) → of_fields (λ b i f. Some (F b i f)) ≡ of_fields always → (slot : Slot) → IsSlot slot →
+pub holds_by : (F : ℕ → ℕ → ℕ → Bool) → of_fields (λ b i f. Some (F b i f)) ≡ of_fields always → (slot : Slot) → IsSlot slot →
     F slot.block slot.instance slot.field ≡ true
 unfolding always
 holds_by F h slot s = unsome (F slot.block slot.instance slot.field) (agree (λ b i f. Some (F b i f)) always h slot s)
@@ -126,7 +126,7 @@ holds_by F h slot s = unsome (F slot.block slot.instance slot.field) (agree (λ 
     unsome : (b : Bool) → Some b ≡ Some true → b ≡ true
     unsome b e = cc
 
-implied : (b c : Bool) → (if b then c else true) ≡ true → b ≡ true → c ≡ true
+pub implied : (b c : Bool) → (if b then c else true) ≡ true → b ≡ true → c ≡ true
 implied true c h g = h
 implied false c h g = cc
 

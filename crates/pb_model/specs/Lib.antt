@@ -6,5 +6,7 @@ pub mod Machines
 pub mod Outputs
 pub mod Resting
 pub mod Settings
+pub mod Staying
+pub mod Tables
 pub mod Tick
 pub mod Units

@@ -39,14 +39,14 @@ impl Model for BoxState {
 }
 
 impl BoxState {
-    /// The box as it opens at tick 0.
+    /// The box as it opens at tick 0. No later call takes memory.
     pub fn new(alloc: Global) -> Result<BoxState, OutOfMemory>
         ensures kept { IfOk result (λ b. b ≡ opening) }
         ensures agrees { IfOk result (λ b. Agrees b opening_box) }
     {
         let mut blocks = Vec::new(alloc);
         for kind in lut::BLOCK..pcap::BLOCK + 1 {
-            add(&mut blocks, kind, instances(kind))?;
+            add(alloc, &mut blocks, kind, instances(kind))?;
         }
         Ok(BoxState {
             tick: 0,
@@ -80,31 +80,33 @@ impl BoxState {
 }
 
 /// So many more blocks of a kind, as they are when the box opens.
-fn add(blocks: &mut Vec<Block>, kind: u8, count: u8) -> Result<(), OutOfMemory>
+fn add(alloc: Global, blocks: &mut Vec<Block>, kind: u8, count: u8) -> Result<(), OutOfMemory>
     requires from_lut { lut.BLOCK ≤ kind }
     requires to_pcap { kind ≤ pcap.BLOCK }
     ensures { IfOk result (λ _. blocks.new.items ≡ blocks.old.items ++ replicate count (opening_block kind)) }
 {
     for _ in 0..count {
-        blocks.push(Block::new(kind))?;
+        blocks.push(Block::new(alloc, kind)?)?;
     }
     Ok(())
 }
 
 impl Block {
-    /// A block as the box opens, by the place of its kind in the catalogue, 3 to 11.
+    /// A block as the box opens, by the place of its kind in the catalogue, 3 to 11. It takes all the memory that
+    /// it needs.
     #[tactic(auto, unfolding(crate::specs::Tick::opening_block))]
-    pub fn new(kind: u8) -> Block
+    pub fn new(alloc: Global, kind: u8) -> Result<Block, OutOfMemory>
         requires from_lut { lut.BLOCK ≤ kind }
         requires to_pcap { kind ≤ pcap.BLOCK }
-        ensures { result ≡ opening_block kind }
+        ensures { IfOk result (λ block. block ≡ opening_block kind) }
     {
+        let unit = Unit::new(alloc, kind)?;
         let [a, b, c, d, e] = selections(kind);
-        Block {
-            unit: Unit::new(kind),
+        Ok(Block {
+            unit,
             bits: [input(a), input(b), input(c), input(d), input(e)],
             positions: [position_bus::ZERO; 3],
-        }
+        })
     }
 }
 

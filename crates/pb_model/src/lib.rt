@@ -1,5 +1,6 @@
 //! The whole box: its blocks in the order of the catalogue, one tick of all of them, and the changes that
-//! the outside makes. `specs/Tick.antt` says what a tick is, `specs/Settings.antt` what a change does.
+//! the outside makes. `specs/Tick.antt` says what a tick is, `specs/Settings.antt` what a change does, and
+//! `specs/Tables.antt` what a table write leaves.
 #![tactic(auto)]
 
 mod blocks;
@@ -10,13 +11,17 @@ mod places;
 mod rests;
 mod settings;
 mod shows;
+mod tables;
 mod ticks;
 mod units;
 
 pub use blocks::Block;
 pub use boxes::BoxState;
 pub use changes::{Change, is_taken_role};
-pub use laws::{boxes_by_example, changes_and_puts_keep_agreement, outputs_stand_at_their_entries};
+pub use laws::{
+    boxes_by_example, changes_and_puts_keep_agreement, outputs_stand_at_their_entries,
+    what_is_set_stays,
+};
 pub use places::{MACHINES, machine};
 pub use rests::Resting;
 pub use ticks::tick;

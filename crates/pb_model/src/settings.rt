@@ -1,8 +1,9 @@
 ghost use Rattle.std.specs.Prelude.{◌≡◌, ◌^◌, ◌<◌, ◌≤◌, true, slice_index_or, slice_set};
-ghost use Rattle.pb_fields.specs.Slots.{IsSlot, role_at, type_at};
+ghost use Rattle.pb_fields.specs.Slots.{IsSlot, role_at, type_at, kind_of};
+ghost use Rattle.pb_fields.specs.Values.{IsRaw};
 ghost use Rattle.pb_buses.specs.Delay.{wired, delayed, opening_input};
 ghost use Rattle.pb_model.specs.Changes.{IsChange, IsSet};
-ghost use Rattle.pb_model.specs.Tick.{kind_of};
+ghost use Rattle.pb_model.specs.Tick.{kind_of as kind_of_block};
 ghost use Rattle.pb_model.specs.Settings.{is_pos_mux, position_place, with_value, with_setting, changed, read_of};
 
 use crate::blocks::Block;
@@ -24,12 +25,12 @@ impl BoxState {
         }
     }
 
-    /// The value of a read field at this tick.
+    /// The value of a read field at this tick, that of a label being its number.
     pub fn read(&self, slot: Slot) -> u64
         requires slot { IsSlot slot }
         requires read { role_at slot ≡ Role.Read }
         ensures value { result ≡ read_of self.now.blocks slot }
-        ensures small { result < 2 ^ 32 }
+        ensures in_range { IsRaw (kind_of slot) result }
     {
         let place = machine(slot.block, slot.instance);
         self.blocks[place as usize].unit.read(slot.field)
@@ -54,7 +55,7 @@ impl Block {
     /// The setting takes this raw value, and nothing else changes.
     pub fn set(&mut self, slot: Slot, raw: u64)
         requires set { IsSet slot raw }
-        requires kind { kind_of self.old ≡ slot.block }
+        requires kind { kind_of_block self.old ≡ slot.block }
         ensures { self.new ≡ with_value slot raw self.old }
     {
         if slot.attr != ITSELF {

@@ -1,13 +1,21 @@
-ghost use Rattle.std.specs.Prelude.{◌≡◌, ◌≤◌, ◌<◌, ◌^◌};
+ghost use Rattle.std.specs.Prelude.{◌≡◌, ◌≤◌, ◌<◌, ◌^◌, IfOk};
 ghost use Rattle.pb_names.specs.declared.lut.TheConstants as lut;
 ghost use Rattle.pb_names.specs.declared.pcap.TheConstants as pcap;
-ghost use Rattle.pb_model.specs.Units.{opening_unit, place_of, IsRead, value_read, bit_outputs, position_outputs};
+ghost use Rattle.pb_names.specs.declared.seq.TheConstants as seq;
+ghost use Rattle.pb_tables.specs.Computed.{written, answer_of};
+ghost use Rattle.pb_model.specs.Tables.{unit_left};
+ghost use Rattle.pb_model.specs.Units.{opening_unit, place_of, IsRead, value_read, words_of, bit_outputs, position_outputs};
 
 use crate::rests::Resting;
 use pb_buses::{Emit, Inputs, Machine, Outputs};
 use pb_logic::{Clock, Counter, Div, Lut, Srgate};
 use pb_names::{clock, counter, div, lut, pcap, pcomp, pulse, seq, srgate};
-use pb_words::Steps;
+use pb_pcomp::Pcomp;
+use pb_pulse::Pulse;
+use pb_seq::Seq;
+use pb_tables::Rows;
+use pb_words::{OutOfMemory, Refusal, Steps};
+use std::alloc::Global;
 use std::sync::ledger::Ledger;
 
 /// A block of one of the nine kinds.
@@ -16,32 +24,34 @@ pub enum Unit {
     Lut(Lut),
     Srgate(Srgate),
     Div(Div),
-    Pulse(Resting),
+    Pulse(Pulse),
     Counter(Counter),
     Clock(Clock),
-    Seq(Resting),
-    Pcomp(Resting),
+    Seq(Seq),
+    Pcomp(Pcomp),
     Pcap(Resting),
 }
 
 impl Unit {
-    /// The unit as the box opens, by the place of its kind in the catalogue, 3 to 11.
-    pub fn new(block: u8) -> Unit
+    /// The unit as the box opens, by the place of its kind in the catalogue, 3 to 11. It takes all the memory
+    /// that it needs.
+    pub fn new(alloc: Global, block: u8) -> Result<Unit, OutOfMemory>
         requires from_lut { lut.BLOCK ≤ block }
         requires to_pcap { block ≤ pcap.BLOCK }
-        ensures { result ≡ opening_unit block }
+        ensures { IfOk result (λ unit. unit ≡ opening_unit block) }
     {
-        match block {
+        let unit = match block {
             lut::BLOCK => Unit::Lut(Lut::new()),
             srgate::BLOCK => Unit::Srgate(Srgate::new()),
             div::BLOCK => Unit::Div(Div::new()),
-            pulse::BLOCK => Unit::Pulse(Resting::new()),
+            pulse::BLOCK => Unit::Pulse(Pulse::new(alloc)?),
             counter::BLOCK => Unit::Counter(Counter::new()),
             clock::BLOCK => Unit::Clock(Clock::new()),
-            seq::BLOCK => Unit::Seq(Resting::new()),
-            pcomp::BLOCK => Unit::Pcomp(Resting::new()),
+            seq::BLOCK => Unit::Seq(Seq::new(alloc)?),
+            pcomp::BLOCK => Unit::Pcomp(Pcomp::new()),
             _ => Unit::Pcap(Resting::new()),
-        }
+        };
+        Ok(unit)
     }
 
     /// The place of its kind in the catalogue.
@@ -69,9 +79,49 @@ impl Unit {
     {
         match self {
             Unit::Div(block) => block.read(field),
-            Unit::Pulse(block) | Unit::Seq(block) | Unit::Pcomp(block) | Unit::Pcap(block) =>
-                block.read(field),
+            Unit::Pulse(block) => block.read(field),
+            Unit::Seq(block) => block.read(field),
+            Unit::Pcomp(block) => block.read(field),
+            Unit::Pcap(block) => block.read(field),
             Unit::Lut(_) | Unit::Srgate(_) | Unit::Counter(_) | Unit::Clock(_) => unreachable!(),
+        }
+    }
+
+    /// The table of a sequencer.
+    pub fn rows(&self) -> &Rows
+        requires { place_of self.now ≡ seq.BLOCK }
+        ensures { result.now ≡ words_of self.now }
+    {
+        match self {
+            Unit::Seq(block) => block.rows(),
+            Unit::Lut(_)
+            | Unit::Srgate(_)
+            | Unit::Div(_)
+            | Unit::Pulse(_)
+            | Unit::Counter(_)
+            | Unit::Clock(_)
+            | Unit::Pcomp(_)
+            | Unit::Pcap(_) => unreachable!(),
+        }
+    }
+
+    /// Writes the table of a sequencer, as `Rows::write` does. A refused write changes nothing.
+    #[tactic(auto, using(crate::proofs::TableLemmas::sequencer_left))]
+    pub fn write(&mut self, append: bool, base64: bool, body: &[u8]) -> Result<(), Refusal>
+        requires { place_of self.old ≡ seq.BLOCK }
+        ensures told { result ≡ answer_of (written (words_of self.old) append base64 body.now) }
+        ensures left { self.new ≡ unit_left self.old (written (words_of self.old) append base64 body.now) }
+    {
+        match self {
+            Unit::Seq(block) => block.write(append, base64, body),
+            Unit::Lut(_)
+            | Unit::Srgate(_)
+            | Unit::Div(_)
+            | Unit::Pulse(_)
+            | Unit::Counter(_)
+            | Unit::Clock(_)
+            | Unit::Pcomp(_)
+            | Unit::Pcap(_) => unreachable!(),
         }
     }
 

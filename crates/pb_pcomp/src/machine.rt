@@ -1,4 +1,5 @@
-ghost use Rattle.std.specs.Prelude.{◌≡◌};
+ghost use Rattle.std.specs.Prelude.{◌≡◌, ◌<◌, ◌≤◌, ◌+◌, ◌^◌};
+ghost use Rattle.pb_buses.specs.Rules.{IsHorizon, AreCalm, after};
 
 use crate::registers::{PcompRegisters, PcompState, Sign};
 use crate::settings::{Direction, PcompSettings, Reference};
@@ -59,12 +60,53 @@ impl Pcomp {
     /// PRODUCED.
     pub fn read(&self, field: u8) -> u64
         requires { definition.IsRead field }
-        ensures { result ≡ definition.value_read self.now field }
+        ensures value { result ≡ definition.value_read self.now field }
+        ensures small { result < 2 ^ 32 }
     {
         match field {
             pcomp::STATE => u64::from(self.registers.state.label()),
             pcomp::PRODUCED => u64::from(self.registers.produced),
             _ => unreachable!(),
+        }
+    }
+
+    /// How many steps under these inputs are calm before the first that isn't; none where all are calm.
+    pub fn horizon<L: Ledger>(
+        &self,
+        inputs: &Inputs,
+        tick: u64,
+        steps: &mut Steps<L>,
+    ) -> Option<u128>
+        requires { tick < 2 ^ 62 }
+        ensures horizon { IsHorizon definition.rules inputs.now tick self.now result }
+        ensures counts { steps.new ≡ steps.old + 1 }
+    {
+        steps.tick();
+        if self.registers_after(inputs) == self.registers {
+            None
+        } else {
+            Some(0)
+        }
+    }
+
+    /// So many steps at once, all of them calm.
+    pub fn coast<L: Ledger>(&mut self, inputs: &Inputs, tick: u64, ticks: u64, steps: &mut Steps<L>)
+        requires calm { AreCalm definition.rules inputs.now tick ticks self.old }
+        requires end { tick + ticks ≤ 2 ^ 62 }
+        ensures left { self.new ≡ after definition.rules inputs.now tick ticks self.old }
+        ensures counts { steps.new ≡ steps.old + 1 }
+    {
+        steps.tick();
+    }
+
+    /// The registers one tick later.
+    fn registers_after(&self, inputs: &Inputs) -> PcompRegisters
+        ensures value { result ≡ definition.registers_after self.now inputs.now }
+        ensures counts { definition.CanCount result.state result.produced }
+    {
+        PcompRegisters {
+            enable_before: inputs.bits[pcomp::ENABLE as usize],
+            ..self.registers.compared_after(&self.settings, inputs)
         }
     }
 }
@@ -83,10 +125,7 @@ impl Machine for Pcomp {
 
     fn step<L: Ledger>(&mut self, inputs: &Inputs, tick: u64, steps: &mut Steps<L>) -> Emit {
         steps.tick();
-        self.registers = PcompRegisters {
-            enable_before: inputs.bits[pcomp::ENABLE as usize],
-            ..self.registers.compared_after(&self.settings, inputs)
-        };
+        self.registers = self.registers_after(inputs);
         Emit::Nothing
     }
 

@@ -1,5 +1,5 @@
-ghost use Rattle.std.specs.Prelude.{◌≡◌, ◌++◌, [], codes, IfOk, OnOk};
-ghost use Rattle.pb_replies.specs.Replies.{value_reply, listed, list_reply};
+ghost use Rattle.std.specs.Prelude.{◌≡◌, ◌++◌, codes, decimal, IfOk, OnOk};
+ghost use Rattle.pb_replies.specs.Replies.{value_reply, listed};
 
 use pb_words::{OutOfMemory, Text};
 use std::alloc::Global;
@@ -15,12 +15,14 @@ pub fn value_reply(alloc: Global, value: &[u8]) -> Result<Text, OutOfMemory>
     Ok(text)
 }
 
-/// The reply of no values, which is the point alone.
-pub fn empty_reply(alloc: Global) -> Result<Text, OutOfMemory>
-    ensures { IfOk result (λ text. text ≡ list_reply []) }
+/// The reply of a number.
+pub fn number_reply(alloc: Global, number: u64) -> Result<Text, OutOfMemory>
+    ensures { IfOk result (λ text. text ≡ value_reply (decimal number)) }
 {
     let mut text = Text::new(alloc);
-    end_list(&mut text)?;
+    text.append(b"OK =")?;
+    text.append_number(number)?;
+    text.append(b"\n")?;
     Ok(text)
 }
 

@@ -1,5 +1,5 @@
 -- The words of bytes, and the letters that are read so far.
-use Rattle.std.proofs.Common.{◌≡◌, ◌≢◌, ℕ, zero, suc, ◌+◌, ◌*◌, ◌/◌, ◌%◌, ◌^◌, ◌<◌, ◌≤◌, true, false, List, [], ◌∷◌, ◌++◌, length, get_or, take, drop, cond, not, ◌==◌, refl, sym, ap, subst, ◌∙◌, append_assoc, append-nil, add-one, arith}
+use Rattle.std.proofs.Common.{◌≡◌, ◌≢◌, ℕ, zero, suc, ◌+◌, ◌*◌, ◌/◌, ◌%◌, ◌^◌, ◌<◌, ◌≤◌, true, List, [], ◌∷◌, ◌++◌, length, get_or, take, drop, cond, not, ◌==◌, refl, sym, ap, subst, ◌∙◌, append_assoc, append-nil, add-one, arith}
 use Rattle.std.proofs.lemmas.List.{length-append, length-take-le, length-drop, take_all, take-append-drop, take_more_set, drop_more}
 use Rattle.std.proofs.Math.Seq.{take-append-add}
 use Rattle.std.proofs.lemmas.List.Elements.{All-append, All-cons, All-nil, filter-append, filter_more}
@@ -14,7 +14,8 @@ use Rattle.byteorder.specs.Endian.{little_bytes, little_number}
 use Rattle.byteorder.specs.Numbers.{little_from-lt, length-bytes_low_first}
 use Rattle.pb_tables.specs.declared.drafts.Draft.{Draft}
 use Rattle.pb_tables.specs.Bodies.{AreWords, IsEncoded, bytes_of, letters}
-use Rattle.pb_tables.specs.Chunks.{IsChunk, words_in}
+use Rattle.pb_tables.specs.Chunks.{IsChunk}
+use Rattle.pb_tables.specs.Computed.{words_in}
 use Rattle.pb_tables.specs.Held.{Holds, IsRead, AreLetters}
 use Rattle.pb_tables.proofs.EncodingCuts.{IsBytes-take, IsBytes-drop, front_of, length_whole}
 
@@ -31,7 +32,7 @@ length-words_in : (k : ℕ) (bytes : List ℕ) → length (words_in k bytes) ≡
 length-words_in zero bytes = refl
 length-words_in (suc k) bytes = omega (arith, length-append (words_in k bytes) (little_number 4 (drop (4 * k) bytes) ∷ []), length-words_in k bytes)
 
-AreWords-words_in : (k : ℕ) (bytes : List ℕ) → IsBytes bytes → AreWords (words_in k bytes)
+pub AreWords-words_in : (k : ℕ) (bytes : List ℕ) → IsBytes bytes → AreWords (words_in k bytes)
 AreWords-words_in zero bytes low = All-nil (λ word. word < 2 ^ 32)
 AreWords-words_in (suc k) bytes low =
     let small : little_number 4 (drop (4 * k) bytes) < 2 ^ 32 = little_from-lt 0 4 (drop (4 * k) bytes) (IsBytes-drop (4 * k) bytes low) in
@@ -189,21 +190,13 @@ last_added old new chunk body out n sized is whole add h =
       held = add h.words h.held;
     }
 
--- One more letter, or a newline.
+-- One more letter.
+
 letters_more : (body : List ℕ) (i : ℕ) → i < length body → letters (take (i + 1) body) ≡ letters (take i body) ++ cond (not (get_or body i 0 == 10)) (get_or body i 0 ∷ []) []
 letters_more body i within = filter_more (λ b. not (b == 10)) body i 0 within
 
-newline : (b : ℕ) → b ≡ 10 → not (b == 10) ≡ false
-newline b is = rw is refl
-
 letter : (b : ℕ) → b ≢ 10 → not (b == 10) ≡ true
 letter b other = grind (arith, nat_tests)
-
-pub newline_passed : (draft : Draft) (body waiting : List ℕ) (i : ℕ) → i < length body → get_or body i 0 ≡ 10
-    → AreLetters draft (letters (take i body)) waiting → AreLetters draft (letters (take (i + 1) body)) waiting
-newline_passed draft body waiting i within is h =
-    let same : letters (take (i + 1) body) ≡ letters (take i body) = letters_more body i within ∙ rw (newline (get_or body i 0) is) (append-nil (letters (take i body))) in
-    subst (λ seen. AreLetters draft seen waiting) (sym same) h
 
 one_letter : (body : List ℕ) (i : ℕ) → i < length body → get_or body i 0 ≢ 10 → letters (take (i + 1) body) ≡ letters (take i body) ++ get_or body i 0 ∷ []
 one_letter body i within other = letters_more body i within ∙ rw (letter (get_or body i 0) other) refl

@@ -14,7 +14,7 @@ use Rattle.pb_tables.specs.Chunks.{IsChunk}
 pub strict : IsStrict standard
 strict = (refl, refl)
 
-consistent : IsConsistent standard
+pub consistent : IsConsistent standard
 consistent = refl
 
 -- bytes in front, and behind
@@ -33,7 +33,7 @@ encode_injective a b la lb e =
     cc
 
 -- four letters for each three bytes that are begun
-length-encode : (bytes : List ℕ) → length (encode_of standard bytes) ≡ 4 * ((length bytes + 2) / 3)
+pub length-encode : (bytes : List ℕ) → length (encode_of standard bytes) ≡ 4 * ((length bytes + 2) / 3)
 length-encode bytes =
     let symbols = length-encode_symbols standard.encode_table bytes in
     let both = length-append (encode_symbols standard.encode_table bytes) (replicate (padding_len (length bytes)) 61) in

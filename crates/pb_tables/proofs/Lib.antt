@@ -6,3 +6,4 @@ pub mod EncodingCuts
 pub mod ChunkLemmas
 pub mod OneReading
 pub mod OneWrite
+pub mod ComputedLemmas

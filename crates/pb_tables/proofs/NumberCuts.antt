@@ -9,7 +9,8 @@ use Rattle.std.proofs.lemmas.Bool.Decides.{nat_tests}
 use Rattle.std.specs.List.{position, position_or_len}
 use Rattle.pb_words.specs.Numbers.{IsDigit}
 use Rattle.pb_tables.specs.Bodies.{is_blank, IsGap, IsApart, Leads}
-use Rattle.pb_tables.specs.Scanning.{is_digit, IsNumeral, IsEnd}
+use Rattle.pb_words.specs.Signed.{is_digit}
+use Rattle.pb_tables.specs.Scanning.{IsNumeral, IsEnd}
 
 -- where no element passes
 position_none : (p : ℕ → Bool) (xs : List ℕ) → position p xs ≡ None → (k : ℕ) → k < length xs → p (get_or xs k 0) ≡ false
@@ -22,7 +23,7 @@ position_none p xs none k within = elim (cases_lt (position_or_len p xs) (length
 digit_or_blank : (b : ℕ) → IsNumeral b → is_digit b ≡ false → is_blank b ≡ true
 digit_or_blank b h other = rw other at h
 
-blank_or_digit : (b : ℕ) → IsNumeral b → is_blank b ≡ false → IsDigit b
+pub blank_or_digit : (b : ℕ) → IsNumeral b → is_blank b ≡ false → IsDigit b
 blank_or_digit b h other = grind (arith, nat_tests)
 
 digit_no_blank : (b : ℕ) → is_digit b ≡ true → is_blank b ≡ true → ⊥

@@ -9,7 +9,7 @@ use Rattle.pb_words.specs.Numbers.{IsDigit, IsUint, value_of}
 use Rattle.pb_words.specs.declared.refusals.Refusal.{Refusal}
 use Rattle.pb_words.specs.declared.refusals.Refusal.TheVariants as refusals
 use Rattle.pb_tables.specs.Bodies.{is_blank, IsGap, IsApart, Leads, Writes, AreWords, IsEncoded, Says, SaysNone, bytes_of}
-use Rattle.pb_tables.specs.Scanning.{is_digit}
+use Rattle.pb_words.specs.Signed.{is_digit}
 use Rattle.pb_tables.proofs.EncodingCuts.{encode_injective}
 use Rattle.pb_tables.proofs.ChunkLemmas.{length-bytes_of}
 

@@ -1,7 +1,7 @@
 -- What has been read of a body of numbers.
 use Rattle.std.proofs.Common.{◌≡◌, ℕ, ◌+◌, ◌-◌, ◌<◌, ◌≤◌, ◌^◌, Bool, true, false, List, [], ◌∷◌, ◌++◌, length, get_or, map, All, Err, Ok, refl, sym, ap, subst, ◌∙◌, append_assoc, append-nil, arith}
 use Rattle.std.proofs.lemmas.List.{length-append, get_or_append_left, map-append}
-use Rattle.std.proofs.lemmas.List.Elements.{All-nil, All-append, All-tail, All-weaker, All-push}
+use Rattle.std.proofs.lemmas.List.Elements.{All-append, All-tail, All-weaker, All-push}
 use Rattle.std.proofs.lemmas.Bool.Decides.{nat_tests}
 use Rattle.pb_words.specs.Numbers.{IsDigit, IsUint, value_of, ReadsUint}
 use Rattle.pb_words.specs.declared.numbers.NumFault.{NumFault}
@@ -46,19 +46,6 @@ front_more body rest digits behind numbers front leads more written =
 
 values_push : (numbers : List (List ℕ)) (digits : List ℕ) → map value_of (numbers ++ digits ∷ []) ≡ map value_of numbers ++ value_of digits ∷ []
 values_push numbers digits = map-append value_of numbers (digits ∷ [])
-
--- at first nothing is read
-pub none_read : (body : List ℕ) (draft : Draft) → All IsNumeral body → Holds draft [] → draft.count ≡ 0 → AreRead body body draft true
-none_read body draft numerals held empty =
-    record {
-      numbers = [];
-      front = λ more written. written;
-      numerals = numerals;
-      held = λ e. held;
-      words = λ e. All-nil (λ word. word < 2 ^ 32);
-      large = λ e. cc;
-      counted = omega arith;
-    }
 
 -- the front of words, and the last of them
 All-front : (xs ys : List ℕ) → AreWords (xs ++ ys) → AreWords xs

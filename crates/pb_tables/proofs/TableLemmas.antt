@@ -3,8 +3,9 @@ use Rattle.std.proofs.Common.{◌≡◌, ℕ, ◌+◌, ◌-◌, ◌*◌, ◌/◌
 use Rattle.std.proofs.lemmas.Bool.{cases_lt}
 use Rattle.std.proofs.lemmas.List.{length-append, get_or_append_left, get_or-append_right, take_all, take_at, length-take-le}
 use Rattle.pb_tables.specs.declared.drafts.Draft.{Draft}
-use Rattle.pb_tables.specs.Tables.{IsTable, CanFollow, kept, trigger_of}
-use Rattle.pb_tables.specs.Held.{Holds, IsBad}
+use Rattle.pb_words.specs.declared.refusals.Refusal.{Refusal}
+use Rattle.pb_tables.specs.Tables.{IsTable, CanFollow, CannotFollow, IsRefused, kept, trigger_of}
+use Rattle.pb_tables.specs.Held.{Holds, IsRead, IsBad}
 
 -- words that can follow a table make one with it
 pub IsTable-append : (old words : List ℕ) → IsTable old → CanFollow (length old) words → IsTable (old ++ words)
@@ -79,3 +80,9 @@ table_left append table new old put held words used start size draft few sized s
     let whole : take size (new ++ drop (length new) table) ≡ new = take_at new (drop (length new) table) size (omega arith) in
     let n : start + draft.count ≡ start + length (take draft.count held) = omega (arith, ap length all) in
     rw (whole, n, written, front, all) refl
+
+-- words that can't follow what is kept refuse a body that says them
+pub refused_words : (old : List ℕ) (append base64 : Bool) (body : List ℕ) (refusal : Refusal) (draft : Draft) (start : ℕ) → IsRead base64 body draft → start ≡ length (kept append old)
+    → ((words : List ℕ) → Holds draft words → CannotFollow start words refusal) → IsRefused old append base64 body refusal
+refused_words old append base64 body refusal draft start read e why =
+    inr (read.words, read.said, subst (λ n. CannotFollow n read.words refusal) e (why read.words read.held))

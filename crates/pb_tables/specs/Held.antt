@@ -1,3 +1,4 @@
+-- Words of private helpers: no public clause cites them.
 -- What the code holds of the words of a body.
 use Rattle.std.specs.Prelude.{◌≡◌, ◌<◌, ◌%◌, ◌*◌, ℕ, Bool, List, ◌++◌, length, slice_index, take}
 use Rattle.base64.specs.Engines.{standard}

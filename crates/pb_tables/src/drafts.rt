@@ -23,7 +23,7 @@ impl Draft {
     ghost use Rattle.pb_tables.specs.Bodies.{Says, SaysNone, letters};
     ghost use Rattle.pb_tables.specs.Tables.{CanFollow, CannotFollow};
     ghost use Rattle.pb_tables.specs.Held.{Holds, IsRead, AreLetters};
-    ghost use Rattle.pb_tables.specs.Chunks.{words_in};
+    ghost use Rattle.pb_tables.specs.Computed.{words_in};
     ghost use Rattle.pb_words.specs.declared.refusals.Refusal.TheVariants as refusals;
 
     pub(crate) fn new(alloc: Global) -> Result<Draft, OutOfMemory> {

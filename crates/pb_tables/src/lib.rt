@@ -10,6 +10,8 @@ mod rows;
 mod seq_rows;
 mod triggers;
 
-pub use laws::{bodies_have_one_meaning, writes_have_one_meaning};
+pub use laws::{
+    bodies_have_one_meaning, writes_are_computed, writes_by_example, writes_have_one_meaning,
+};
 pub use rows::Rows;
 pub use seq_rows::SeqRow;

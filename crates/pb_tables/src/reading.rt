@@ -1,6 +1,7 @@
 ghost use Rattle.std.specs.Prelude.{◌≡◌, ◌<◌, ◌≤◌, ◌||◌, ◌↔◌, All, IfSome, IfNone, IsTrue, length, position};
 ghost use Rattle.pb_tables.specs.Bodies.{is_blank, IsGap, Leads};
-ghost use Rattle.pb_tables.specs.Scanning.{is_digit, IsEnd, IsNumeral};
+ghost use Rattle.pb_tables.specs.Scanning.{IsEnd, IsNumeral};
+ghost use Rattle.pb_words.specs.Signed.{is_digit};
 
 /// Whether every byte is a digit, a space or a newline.
 pub(crate) fn are_numerals(body: &[u8]) -> bool

@@ -1,4 +1,6 @@
 ghost use Rattle.std.specs.Prelude.{◌≡◌, ◌<◌, ◌≤◌, ◌*◌, ◌+◌, ◌++◌, ℕ, List, [], length, slice_index, take, vec_len, IfOk, OnOk, OnErr, IfErr};
+ghost use Rattle.std.specs.Result.{result_unwrap_or};
+ghost use Rattle.pb_tables.specs.Computed.{written, answer_of};
 ghost use Rattle.pb_tables.specs.Tables.{IsTable, IsWritten, IsRefused, kept, row_at};
 
 use crate::drafts::{Draft, MOST};
@@ -45,6 +47,8 @@ impl Rows {
         ensures ok { OnOk result (IsWritten self.old append base64 body.now self.new) }
         ensures err { IfErr result (IsRefused self.old append base64 body.now) }
         ensures same { OnErr result (self.new ≡ self.old) }
+        ensures told { result ≡ answer_of (written self.old append base64 body.now) }
+        ensures left { self.new ≡ result_unwrap_or (written self.old append base64 body.now) self.old }
     {
         let start = self.kept(append);
         match self.draft.read(base64, body) {
@@ -53,7 +57,7 @@ impl Rows {
         }
         match self.draft.check(start) {
             Ok(()) => {}
-            Err(refusal) => return Err(refusal),
+            Err(reason) => return Err(reason),
         }
         let end = start + self.draft.count;
         put_at(

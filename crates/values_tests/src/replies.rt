@@ -2,18 +2,39 @@ use crate::fields::slot_of;
 use pb_fields::Catalog;
 use pb_names::ttlin;
 use pb_replies::{
-    attributes_reply, blocks_reply, empty_reply, fields_reply, has_labels, labels_reply,
-    positions_reply, row_reply, value_reply, word_reply,
+    attributes_reply, base64_reply, blocks_reply, fields_reply, has_labels, labels_reply,
+    number_reply, positions_reply, row_reply, table_reply, value_reply, word_reply,
 };
+use pb_tables::Rows;
 use std::test::Fail;
 
 #[test]
-fn a_value_is_a_line_and_no_value_is_a_point(rt: HostRuntime) -> Result<(), Fail> {
+fn a_value_is_a_line(rt: HostRuntime) -> Result<(), Fail> {
     assert_eq!(rt;
         value_reply(rt.alloc(), b"ZERO")?.bytes(),
         b"OK =ZERO\n".as_slice()
     );
-    assert_eq!(rt; empty_reply(rt.alloc())?.bytes(), b".\n".as_slice());
+    assert_eq!(rt;
+        number_reply(rt.alloc(), 16384)?.bytes(),
+        b"OK =16384\n".as_slice()
+    );
+    Ok(())
+}
+
+#[test]
+fn a_table_is_a_line_for_each_word_or_base64(rt: HostRuntime) -> Result<(), Fail> {
+    let mut rows = Rows::new(rt.alloc())?;
+    assert_eq!(rt; table_reply(rt.alloc(), &rows)?.bytes(), b".\n".as_slice());
+    assert_eq!(rt; base64_reply(rt.alloc(), &rows)?.bytes(), b".\n".as_slice());
+    assert!(rt; rows.write(false, false, b"1 0 0 2\n").is_ok());
+    assert_eq!(rt;
+        table_reply(rt.alloc(), &rows)?.bytes(),
+        b"!1\n!0\n!0\n!2\n.\n".as_slice()
+    );
+    assert_eq!(rt;
+        base64_reply(rt.alloc(), &rows)?.bytes(),
+        b"!AQAAAAAAAAAAAAAAAgAAAA==\n.\n".as_slice()
+    );
     Ok(())
 }
 

@@ -1,6 +1,7 @@
 use Rattle.std.proofs.Common.{refl}
 use Rattle.std.specs.Fmt.{digits}
-use Rattle.pb_grammar.specs.Grammar.{command_of, said_in, names_in, is_target}
+use Rattle.pb_grammar.specs.Grammar.{command_of, said_in, names_in, is_target, opening_in}
+use Rattle.pb_grammar.specs.Streams.{is_whole}
 use Rattle.pb_lut.specs.Computed.{function_of, expression_of, tree_at}
 use Rattle.pb_fields.specs.Catalogue.{catalogue}
 use Rattle.pb_fields.specs.Labels.{bit_names}
@@ -17,5 +18,5 @@ use Rattle.pb_core.specs.Naming.{named_by}
 use Rattle.panda_sim.proofs.examples.worked_scripts.Goals as goal
 
 pub returns : goal.returns
-unfolding number line_digits line_after pushed machines machine_kinds bit_outputs position_outputs opening_block opening_selections so_many_before digits command_of said_in names_in is_target function_of expression_of tree_at catalogue bit_names bit_entries spelled raw_given named_by
+unfolding number line_digits line_after pushed machines machine_kinds bit_outputs position_outputs opening_block opening_selections so_many_before digits is_whole opening_in command_of said_in names_in is_target function_of expression_of tree_at catalogue bit_names bit_entries spelled raw_given named_by
 returns c = record { empty = refl; latency = refl; toggling = refl; refused = refl }

@@ -1,6 +1,7 @@
 use Rattle.std.proofs.Common.{◌∙◌, sym, arith}
 use Rattle.pb_model.proofs.SettingLemmas.{delay_is, bit_mux_few, is_bit_mux_at, selection_small, position_small}
-use Rattle.pb_model.proofs.UnitLemmas.{settable, value_of_delay, value_of_wire}
+use Rattle.pb_model.proofs.SettableLemmas.{settable}
+use Rattle.pb_model.proofs.UnitLemmas.{value_of_delay, value_of_wire}
 use Rattle.pb_model.proofs.blocks.Block.set.Goals as goal
 
 pub delay-requires-clause-place : goal.delay-requires-clause-place

@@ -1,5 +1,5 @@
 use Rattle.std.proofs.Common.{ℕ, List, ◌≡◌, ◌+◌, ◌++◌}
-use Rattle.pb_tables.specs.Chunks.{words_in}
+use Rattle.pb_tables.specs.Computed.{words_in}
 use Rattle.pb_tables.specs.Held.{Holds}
 use Rattle.pb_tables.proofs.drafts.Draft.add_words.Given as goal
 

@@ -1,0 +1,6 @@
+pub mod Groups
+pub mod Past
+pub mod Report
+pub mod Kept
+pub mod Helpers
+pub mod Examples

@@ -1,0 +1,56 @@
+ghost use Rattle.std.specs.Prelude.{◌≡◌};
+ghost use Rattle.pb_fields.specs.Slots.{IsSlot};
+ghost use Rattle.pb_model.specs.Kept.{stands_of};
+ghost use Rattle.pb_core.specs.Writing.{is_table, slot_written, table_write};
+ghost use Rattle.pb_core.specs.Answer.{done};
+ghost use Rattle.pb_core.specs.Helpers.{kept_written_by};
+
+use crate::cores::Core;
+use crate::events::Answer;
+use crate::meanings::named_by;
+use crate::targets::Named;
+use pb_fields::{FieldType, Slot, attribute, field_type};
+use pb_words::Refusal;
+
+/// The answer to a table write. A refused one changes nothing.
+pub(crate) fn write(
+    core: &mut Core,
+    target: &[u8],
+    append: bool,
+    base64: bool,
+    body: &[u8],
+) -> Answer
+    ensures answer { result ≡ done (table_write (stands_of core.old.box) target.now append base64 body.now) }
+    ensures core { core.new ≡ kept_written_by core.old (table_write (stands_of core.old.box) target.now append base64 body.now) }
+{
+    match named_by(core.catalog(), target) {
+        Ok(Named::Value(slot)) => write_slot(core, slot, append, base64, body),
+        Ok(_) => Answer::Error(Refusal::NotWriteable),
+        Err(refusal) => Answer::Error(refusal),
+    }
+}
+
+/// The answer to a table write to a field or an attribute, which only the table of a sequencer takes.
+#[tactic(auto, using(crate::proofs::TableLemmas::table_number))]
+fn write_slot(core: &mut Core, slot: Slot, append: bool, base64: bool, body: &[u8]) -> Answer
+    requires { IsSlot slot }
+    ensures answer { result ≡ done (slot_written (stands_of core.old.box) append base64 body.now slot) }
+    ensures core { core.new ≡ kept_written_by core.old (slot_written (stands_of core.old.box) append base64 body.now slot) }
+{
+    if is_table(slot) {
+        core.write_table(slot.instance, append, base64, body)
+    } else {
+        Answer::Error(Refusal::NotWriteable)
+    }
+}
+
+/// Whether the slot is the table of a sequencer.
+fn is_table(slot: Slot) -> bool
+    requires { IsSlot slot }
+    ensures { result ≡ is_table slot }
+{
+    match attribute(slot) {
+        None => matches!(field_type(slot), FieldType::Table),
+        Some(_) => false,
+    }
+}

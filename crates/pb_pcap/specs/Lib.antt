@@ -1,0 +1,6 @@
+pub mod Each
+pub mod Examples
+pub mod Fields
+pub mod Pcap
+pub mod Records
+pub mod Turns

@@ -1,0 +1,5 @@
+pub mod CalmLemmas
+pub mod HoldingLemmas
+pub mod QueueLemmas
+pub mod StillLemmas
+pub mod TrainLemmas

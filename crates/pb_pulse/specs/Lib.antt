@@ -1,0 +1,5 @@
+pub mod Examples
+pub mod Holding
+pub mod Pulse
+pub mod Queue
+pub mod Train

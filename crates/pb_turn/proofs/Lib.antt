@@ -1,0 +1,6 @@
+mod Positions
+mod Fronts
+mod Seats
+mod Keeps
+mod Closing
+mod Calls
