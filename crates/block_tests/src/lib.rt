@@ -6,9 +6,13 @@ mod buses;
 #[cfg(test)]
 mod clocks;
 #[cfg(test)]
+mod coasting;
+#[cfg(test)]
 mod logic;
 #[cfg(test)]
 mod pcomp;
+#[cfg(test)]
+mod pulses;
 #[cfg(test)]
 mod sequencers;
 #[cfg(test)]

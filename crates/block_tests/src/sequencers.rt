@@ -1,5 +1,6 @@
-ghost use Rattle.std.specs.Prelude.{◌≡◌, ◌<◌, ◌≤◌, ◌+◌, ◌^◌};
+ghost use Rattle.std.specs.Prelude.{◌≡◌, ◌<◌};
 
+use crate::coasting::coast_over;
 use pb_buses::{Inputs, Machine};
 use pb_names::{seq, seq_state};
 use pb_seq::Seq;
@@ -18,28 +19,6 @@ fn seen(enable: bool) -> Inputs {
         words: [0; 4],
         bus: [0; 32],
     }
-}
-
-/// Goes over the calm ticks, and answers how many there were.
-fn coast_over<L: Ledger>(
-    sequencer: &mut Seq,
-    inputs: &Inputs,
-    tick: u64,
-    steps: &mut Steps<L>,
-) -> u64
-    requires { tick < 2 ^ 61 }
-{
-    let Some(calm) = sequencer.horizon(inputs, tick, steps) else {
-        return 0;
-    };
-    let Ok(ticks) = u64::try_from(calm) else {
-        return 0;
-    };
-    if ticks > 1 << 61 {
-        return 0;
-    }
-    sequencer.coast(inputs, tick, ticks, steps);
-    ticks
 }
 
 /// A row of 2^60 ticks with OUTA, and 2^30 ticks without.
@@ -62,7 +41,7 @@ fn long_phases<L: Ledger>(rt: &impl Abort, alloc: Global, blank: Blank) -> Resul
     let _nothing = sequencer.step(&seen(true), 10, &mut steps);
     assert_eq!(rt; sequencer.outputs().bits, 65);
     assert_eq!(rt;
-        coast_over(&mut sequencer, &seen(true), 11, &mut steps),
+        coast_over(&mut sequencer, &seen(true), 11, 1 << 60, &mut steps),
         (1 << 60) - 1
     );
     assert_eq!(rt; sequencer.outputs().bits, 65);
@@ -70,7 +49,13 @@ fn long_phases<L: Ledger>(rt: &impl Abort, alloc: Global, blank: Blank) -> Resul
     assert_eq!(rt; sequencer.outputs().bits, 64);
     assert_eq!(rt; sequencer.read(seq::STATE), u64::from(seq_state::PHASE2));
     assert_eq!(rt;
-        coast_over(&mut sequencer, &seen(true), (1 << 60) + 11, &mut steps),
+        coast_over(
+            &mut sequencer,
+            &seen(true),
+            (1 << 60) + 11,
+            1 << 60,
+            &mut steps
+        ),
         (1 << 30) - 1
     );
     Ok(())

@@ -41,7 +41,8 @@ fn told<L: Ledger>(steps: &mut Steps<L>, core: &mut Core, event: &Event) -> Resu
     Ok(core.apply(event, steps)?)
 }
 
-/// The box goes to this tick, of which a session writes nothing.
+/// The box goes to this tick, of which a session writes nothing. Where memory lacks once for a record it stops on the
+/// way, and goes on.
 fn go<L: Ledger>(
     rt: &impl Abort,
     steps: &mut Steps<L>,
@@ -51,6 +52,7 @@ fn go<L: Ledger>(
     assert!(rt; to < 1 << 62);
     let reached = told(steps, core, &Event::Advance { to })?;
     assert_eq!(rt; reached.bytes().len(), 0);
+    let _reached = told(steps, core, &Event::Advance { to })?;
     Ok(())
 }
 
@@ -117,5 +119,30 @@ fn input_is_seen_one_tick_later(rt: HostRuntime) -> Result<(), Fail> {
         ],
     )?;
     assert_eq!(rt; now, 11);
+    Ok(())
+}
+
+/// A LUT that feeds itself triggers a record at each odd tick. Each allocation may fail once, those for records too.
+#[test]
+fn records_are_captured(rt: HostRuntime) -> Result<(), Fail> {
+    let now = play_from_the_start::<Brand>(
+        &rt,
+        rt.alloc(),
+        Blank::new(1),
+        &[
+            (0, "LUT1.INPA=LUT1.OUT\n", "OK\n"),
+            (0, "LUT1.FUNC=~A\n", "OK\n"),
+            (0, "PCAP.TRIG=LUT1.OUT\n", "OK\n"),
+            (0, "PCAP.ENABLE=ONE\n", "OK\n"),
+            (0, "INENC1.VAL.CAPTURE=Value\n", "OK\n"),
+            (0, "*PCAP.ARM=\n", "OK\n"),
+            (2, "*PCAP.CAPTURED?\n", "OK =1\n"),
+            (10, "*PCAP.CAPTURED?\n", "OK =5\n"),
+            (10, "*PCAP.DISARM=\n", "OK\n"),
+            (20, "*PCAP.CAPTURED?\n", "OK =5\n"),
+            (20, "*PCAP.COMPLETION?\n", "OK =Disarmed\n"),
+        ],
+    )?;
+    assert_eq!(rt; now, 20);
     Ok(())
 }

@@ -9,3 +9,4 @@ pub mod PlayedSoFar
 pub mod OneWord
 pub mod Causes
 pub mod TakenLemmas
+pub mod ToldEvents

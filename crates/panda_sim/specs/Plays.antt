@@ -1,7 +1,10 @@
 -- Words of private helpers: no public clause cites them.
 -- What playing writes, and what replaying some bytes leaves, by how it ends.
-use Rattle.std.specs.Prelude.{◌≡◌, ℕ, ◌⊎◌, List, Option}
+use Rattle.std.specs.Prelude.{◌≡◌, ℕ, ◌⊎◌, Bool, true, false, List, Option}
 use Rattle.pb_ports.specs.Ports.{Adds}
+use Rattle.pb_core.specs.declared.Answer.{Answer}
+use Rattle.pb_core.specs.declared.Answer.TheVariants as answers
+use Rattle.pb_core.specs.declared.Why.TheVariants as whys
 use Rattle.panda_sim.specs.declared.statuses.Played.{Played}
 use Rattle.panda_sim.specs.declared.statuses.Played.TheVariants as ends
 use Rattle.panda_sim.specs.declared.statuses.Status.{Status}
@@ -28,3 +31,8 @@ Replayed statuses.Script bytes held now = ((lines : List Line) → ¬ (IsScript 
 Replayed statuses.ReadFault bytes held now = ⊥
 Replayed statuses.WriteFault bytes held now = HasOutput bytes (λ out. AddsFront held out now)
 Replayed statuses.OutOfMemory bytes held now = (now ≡ held) ⊎ HasOutput bytes (λ out. AddsFront held out now)
+
+-- an advance came to its target
+abbrev pub is_at_target : Answer → Bool
+is_at_target (answers.Reached tick whys.Memory) = false
+is_at_target told = true

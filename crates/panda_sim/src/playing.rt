@@ -1,11 +1,11 @@
-ghost use Rattle.std.specs.Prelude.{◌≡◌, ℕ, ◌<◌, ◌≤◌, ◌∷◌, [], List, map, ◌^◌, All, IfOk};
+ghost use Rattle.std.specs.Prelude.{◌≡◌, ℕ, ◌<◌, ◌≤◌, ◌∷◌, [], List, map, ◌^◌, All, Some, IfOk, OnOk, IsTrue};
 ghost use Rattle.pb_ports.specs.Ports.{Rose};
 ghost use Rattle.pb_grammar.specs.Feeding.{Fed, Completed, HasWhole};
 ghost use Rattle.pb_core.specs.Kept.{Agrees};
-ghost use Rattle.pb_core.specs.Answer.{CoreState, opening, after, after_all};
+ghost use Rattle.pb_core.specs.Answer.{CoreState, opening, CanHappen, answer, after, after_all};
 ghost use Rattle.pb_core.specs.declared.Event.TheVariants as events;
-ghost use Rattle.panda_sim.specs.Output.{written, sections, sent, events_of, events_from, waits_after};
-ghost use Rattle.panda_sim.specs.Plays.{Plays};
+ghost use Rattle.panda_sim.specs.Output.{written, sections, session_of, sent, events_of, events_from, waits_after};
+ghost use Rattle.panda_sim.specs.Plays.{Plays, is_at_target};
 ghost use Rattle.panda_sim.specs.Steps.{IsStep, step_line};
 ghost use Rattle.panda_sim.specs.KeptScript.{script_output};
 
@@ -13,7 +13,7 @@ use crate::feeding::{feed_line, text_of, whole_event};
 use crate::scripts::{Script, Step};
 use crate::sections::write_section;
 use crate::statuses::Played;
-use pb_core::{Core, Event};
+use pb_core::{Answer, Core, Event, Why};
 use pb_grammar::Assembler;
 use pb_ports::Sink;
 use pb_stim::Stimulus;
@@ -124,10 +124,13 @@ impl Player {
                     Played::Ok
                 }
             }
-            None => match self.core.apply(&Event::Advance { to: moment.tick }, steps) {
-                Ok(_) => Played::Ok,
-                Err(_) => Played::OutOfMemory,
-            },
+            None => {
+                if self.advance(moment.tick, steps) {
+                    Played::Ok
+                } else {
+                    Played::OutOfMemory
+                }
+            }
         }
     }
 
@@ -148,9 +151,22 @@ impl Player {
         ensures cause { result ≡ Played.WriteFault → Rose (K.faults output.old) (K.faults output.new) }
         ensures count { K.faults output.old ≤ K.faults output.new }
     {
-        match self.core.apply(&Event::Advance { to: tick }, steps) {
-            Ok(_) => self.send_command(output, steps),
-            Err(_) => Played::OutOfMemory,
+        if self.advance(tick, steps) {
+            self.send_command(output, steps)
+        } else {
+            Played::OutOfMemory
+        }
+    }
+
+    /// The box goes to this tick, unless memory is wanting for a record on the way: then the answer is false.
+    fn advance<L: Ledger>(&mut self, to: u64, steps: &mut Steps<L>) -> bool
+        requires { to < 2 ^ 62 }
+        ensures core { IsTrue result → (state : CoreState) → Agrees self.old.core state → Agrees self.new.core (after state (events.Advance to)) }
+        ensures assembler { self.new.assembler ≡ self.old.assembler }
+    {
+        match self.core.apply(&Event::Advance { to }, steps) {
+            Ok(answer) => is_at_target(&answer),
+            Err(_) => false,
         }
     }
 
@@ -171,12 +187,37 @@ impl Player {
             Err(_) => return Played::OutOfMemory,
         };
         let tick = self.core.now();
-        match self.core.apply(&event, steps) {
+        match self.answer(&event, steps) {
             Ok(answer) => {
                 self.command = text_of(event, self.alloc);
                 write_section(tick, 1, answer.bytes(), &mut self.section, output)
             }
             Err(_) => Played::OutOfMemory,
         }
+    }
+
+    /// What the core answers to an event of the session.
+    fn answer<L: Ledger>(
+        &mut self,
+        event: &Event,
+        steps: &mut Steps<L>,
+    ) -> Result<Answer, OutOfMemory>
+        requires can { CanHappen event.now }
+        requires session { session_of event.now ≡ Some 1 }
+        ensures ok { (state : CoreState) → Agrees self.old.core state → IfOk result (λ told. told ≡ answer state event.now) }
+        ensures core { (state : CoreState) → Agrees self.old.core state → OnOk result (Agrees self.new.core (after state event.now)) }
+        ensures assembler { self.new.assembler ≡ self.old.assembler }
+    {
+        self.core.apply(event, steps)
+    }
+}
+
+/// Whether an advance came to its target.
+fn is_at_target(answer: &Answer) -> bool
+    ensures { result ≡ is_at_target answer.now }
+{
+    match answer {
+        Answer::Reached { tick: _, why } => matches!(why, Why::Target),
+        _ => true,
     }
 }

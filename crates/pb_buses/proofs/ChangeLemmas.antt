@@ -1,5 +1,5 @@
 -- The ticks of the last changes, and the states of the bus.
-use Rattle.std.proofs.Common.{◌≡◌, ◌≢◌, ℕ, zero, suc, ◌+◌, ◌-◌, ◌<◌, ◌≤◌, ◌==◌, ◌⊎◌, inl, inr, ℤ, pos, Bool, true, false, List, [], ◌∷◌, length, set, replicate, get_or, refl, ap, sym, subst, ◌∙◌, arith, lit<, add-one, if◌then◌else◌}
+use Rattle.std.proofs.Common.{◌≡◌, ◌≢◌, ℕ, suc, ◌+◌, ◌-◌, ◌<◌, ◌≤◌, ◌==◌, ◌⊎◌, inl, inr, ℤ, pos, Bool, true, false, List, [], ◌∷◌, length, set, get_or, refl, ap, sym, subst, ◌∙◌, arith, if◌then◌else◌}
 use Rattle.std.specs.Ordering.{int_eq}
 use Rattle.std.proofs.Math.Bool.{beq}
 use Rattle.std.specs.Cmp.{booleans_Decides}
@@ -9,7 +9,7 @@ use Rattle.std.proofs.lemmas.List.{get_or-set_same, get_or-set_other, get_or-rep
 use Rattle.std.proofs.Math.Dec.{ltb}
 use Rattle.pb_buses.specs.declared.entries.Bus.{Bus}
 use Rattle.pb_buses.specs.declared.entries.Buses.{Buses}
-use Rattle.pb_buses.specs.Buses.{bit, position, value, last_change, changed_at, with_bit, with_position, opening_bus, opening_buses, AgreesWithPast, IsUnchangedAt}
+use Rattle.pb_buses.specs.Buses.{bit, position, value, last_change, with_bit, with_position, opening_buses, AgreesWithPast, IsUnchangedAt}
 
 not_true : (b : Bool) → (b ≡ true → ⊥) → b ≡ false
 not_true true h = absurd (h refl)

@@ -1,9 +1,11 @@
 -- What calm steps leave, and the horizon of blocks without running counts.
-use Rattle.std.proofs.Common.{◌≡◌, ℕ, zero, suc, ◌+◌, ◌<◌, refl, ap, sym, subst, ◌∙◌, arith, add-zero, Some, None}
+use Rattle.std.proofs.Common.{◌≡◌, ℕ, zero, suc, ◌+◌, ◌≤◌, ◌↔◌, refl, ap, sym, ◌∙◌, arith, add-zero, inl, inr, Some, None}
+use Rattle.std.proofs.lemmas.Bool.{cases_lt}
 use Rattle.pb_buses.specs.declared.inputs.Inputs.{Inputs}
+use Rattle.pb_buses.specs.declared.inputs.Outputs.{Outputs}
 use Rattle.pb_buses.specs.declared.emits.Emit.TheVariants as emits
-use Rattle.pb_buses.specs.Rules.{Rules, after, IsCalm, AreCalm, IsHorizon}
-use Rattle.pb_buses.proofs.RuleLemmas.{never, until}
+use Rattle.pb_buses.specs.Rules.{Rules, after, IsCalm, AreCalm, IsHorizon, CountsAreUnseen}
+use Rattle.pb_buses.proofs.RuleLemmas.{never}
 
 later : (t k : ℕ) → (t + 1) + k ≡ t + suc k
 later t k = omega arith
@@ -24,6 +26,21 @@ module _ {B : Type 0} (rules : Rules B) (inputs : Inputs) where
   coasted zero t b calm = refl
   coasted (suc n) t b calm =
       coasted n (t + 1) (rules.next b inputs t) (rest_calm n t b calm) ∙ (first_calm n t b calm).still
+
+  -- the next n steps are calm exactly where n isn't above the horizon
+  pub within :
+      (t n h : ℕ) (b : B) → IsHorizon rules inputs t b (Some h) → AreCalm rules inputs t n b ↔ (n ≤ h)
+  within t n h b is = (
+    λ calm. elim (cases_lt h n) [ inl more ↦ absurd (is.1 (calm h more)) | inr small ↦ small ],
+    λ small k below. is.0 k (omega arith),
+  )
+
+  -- and they leave what is shown as it is
+  pub shows_the_same :
+      (shown : B → Outputs) → CountsAreUnseen rules shown → (t n : ℕ) (b : B) → AreCalm rules inputs t n b →
+      shown (after rules inputs t n b) ≡ shown b
+  shows_the_same shown unseen t n b calm =
+      sym (unseen.outputs inputs (after rules inputs t n b)) ∙ ap shown (coasted n t b calm) ∙ unseen.outputs inputs b
 
 -- a kind that emits nothing, has no running counts, and doesn't look at the tick
 pub record HasNoCounts {B : Type 0} (rules : Rules B) : Type 0 where

@@ -1,11 +1,11 @@
 -- The delay line as a word: its digits are the line.
-use Rattle.std.proofs.Common.{◌≡◌, ℕ, zero, suc, ◌+◌, ◌-◌, ◌*◌, ◌/◌, ◌%◌, ◌^◌, ◌<◌, ◌≤◌, ◌==◌, min, Bool, true, false, List, [], ◌∷◌, ◌++◌, take, length, replicate, get_or, refl, ap, sym, ◌∙◌, bit_and, arith, add-one, mul-one, add-zero, lit≤, if◌then◌else◌}
+use Rattle.std.proofs.Common.{◌≡◌, ℕ, zero, suc, ◌+◌, ◌-◌, ◌*◌, ◌/◌, ◌%◌, ◌^◌, ◌<◌, ◌≤◌, ◌==◌, min, Bool, true, false, List, [], ◌∷◌, ◌++◌, take, replicate, get_or, refl, ap, sym, ◌∙◌, bit_and, arith, add-one, mul-one, add-zero, lit≤, if◌then◌else◌}
 use Rattle.std.proofs.Math.Nat.{pow-suc, pow-succ', mul_assoc, mul_comm, zero-min, suc-min-suc}
 use Rattle.std.proofs.lemmas.Nat.{pow_pos, mod-pow-add, and_mask, shl_whole}
 use Rattle.std.specs.Int.{bit_at}
 use Rattle.std.proofs.lemmas.Nat.Bits.{bit_at_lowest, bit_at-suc, shr_and_one}
 use mir.Val.{bool_byte}
-use Rattle.pb_buses.specs.Delay.{digits, pushed, line_after}
+use Rattle.pb_buses.specs.Delay.{digits, pushed}
 
 -- a digit as a number
 abbrev pub digit : Bool → ℕ
@@ -116,3 +116,16 @@ pub digit_seen :
     (bit_and ((2 * w + bool_byte now) / 2 ^ d) 1 == 1) ≡ get_or (now ∷ digits 31 w) d false
 digit_seen w d true h = rw shr_and_one (seen_digit w d true h)
 digit_seen w d false h = rw shr_and_one (seen_digit w d false h)
+
+-- the word of a line one tick later
+pub word_one : (w : ℕ) (b : Bool) → digits 31 ((2 * w + digit b) % 2 ^ 32) ≡ pushed (digits 31 w) b 1
+unfolding pushed
+word_one w b =
+    digits-mod 31 32 (2 * w + digit b) (lit≤ tt)
+    ∙ (digits-more 30 w b ∙ ap (λ xs. b ∷ xs) (sym (digits-fewer 30 31 w (lit≤ tt))))
+
+-- the same as the code computes it
+pub word_next :
+    (w : ℕ) (b : Bool) → digits 31 (bit_and (2 * w + bool_byte b) (2 ^ 32 - 1)) ≡ pushed (digits 31 w) b 1
+word_next w true = rw (and_mask (2 * w + 1) 32) (word_one w true)
+word_next w false = rw (and_mask (2 * w + 0) 32) (word_one w false)

@@ -1,6 +1,7 @@
 pub mod ChangeLemmas
+pub mod CoastLemmas
 pub mod DelayLemmas
 pub mod LineLemmas
 pub mod RuleLemmas
 pub mod WordLemmas
-pub mod CoastLemmas
+pub mod WrapLemmas

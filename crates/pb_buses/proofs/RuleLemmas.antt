@@ -1,5 +1,5 @@
 -- Many ticks of a block under the same inputs: what calm steps leave, and how a horizon is shown.
-use Rattle.std.proofs.Common.{◌≡◌, ℕ, zero, suc, ◌+◌, ◌<◌, refl, ap, sym, subst, ◌∙◌, arith, add-zero, zero-add, Option, Some, None}
+use Rattle.std.proofs.Common.{◌≡◌, ℕ, zero, suc, ◌+◌, refl, arith, add-zero, zero-add, Some, None}
 use Rattle.pb_buses.specs.declared.inputs.Inputs.{Inputs}
 use Rattle.pb_buses.specs.Rules.{Rules, after, IsCalm, AreCalm, IsHorizon}
 

@@ -1,5 +1,5 @@
 -- Bit inputs: what a mux selects, and the delay line behind it.
-use Rattle.std.specs.Prelude.{◌≡◌, ℕ, zero, suc, ◌≤◌, ◌+◌, ◌/◌, ◌%◌, ◌==◌, Bool, true, false, List, [], ◌∷◌, ◌++◌, take, replicate, slice_index_or}
+use Rattle.std.specs.Prelude.{ℕ, zero, suc, ◌/◌, ◌%◌, ◌==◌, Bool, false, List, [], ◌∷◌, ◌++◌, take, replicate, slice_index_or}
 use Rattle.pb_names.specs.declared.bit_bus.TheConstants as bit_bus
 
 -- A bit input of a block: the raw value that says what it selects, its delay in ticks, and its delay

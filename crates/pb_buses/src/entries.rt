@@ -62,10 +62,10 @@ impl Buses {
     pub fn selected(&self, select: u8) -> bool
         ensures { result ≡ selected self.now.bus select }
     {
-        if select == bit_bus::ONE {
-            return true;
+        match self.bus.bits.get(select as usize) {
+            Some(bit) => *bit,
+            None => select == bit_bus::ONE,
         }
-        self.bus.bits.get(select as usize).copied().unwrap_or(false)
     }
 
     /// What a position input with this raw value selects: 0 to 31 are the entries, and 32 is ZERO. No

@@ -1,8 +1,12 @@
-ghost use Rattle.std.specs.Prelude.{◌≡◌, ℕ, ℤ, ◌+◌, ◌<◌, ◌≤◌, Bool, false, List, [], ◌∷◌, ◌++◌, length, replicate, slice_index_or};
+ghost use Rattle.std.specs.Prelude.{◌≡◌, ℕ, ℤ, ◌+◌, ◌<◌, ◌≤◌, ◌↔◌, Bool, false, List, [], ◌∷◌, ◌++◌, length, replicate, slice_index_or, Some};
 ghost use Rattle.pb_buses.specs.declared.entries.Bus.{Bus};
 ghost use Rattle.pb_buses.specs.declared.entries.Buses.{Buses};
 ghost use Rattle.pb_buses.specs.Buses.{value, opening_buses, with_bit, with_position, AgreesWithPast, IsUnchangedAt};
 ghost use Rattle.pb_buses.specs.Delay.{line_after, pushed};
+ghost use Rattle.pb_buses.specs.declared.inputs.Inputs.{Inputs};
+ghost use Rattle.pb_buses.specs.Rules.{AreCalm, IsHorizon, after};
+
+use crate::machines::Machine;
 
 /// The delay line stands for the list of what was selected at the ticks before, the latest first: it
 /// goes on with the list, and what it shows with delay d was selected d ticks ago, or is 0 where the box
@@ -30,4 +34,16 @@ pub fn puts_keep_the_last_changes()
     ensures unchanged { (buses : Buses) (before : Bus) (past : List Bus) (entry : ℕ) →
         AgreesWithPast buses (before ∷ past) → entry < 160 →
         value buses.bus entry ≡ value before entry → IsUnchangedAt buses entry (length past + 1) }
+{}
+
+/// Many steps of a machine under the same inputs. To make them in two parts is to make them at once, the
+/// ticks of the second part following those of the first. They are calm exactly where they aren't more than
+/// the horizon. And calm steps leave what the block shows on the buses as it is.
+pub fn steps_add_up<M: Machine>()
+    ensures parts { (inputs : Inputs) (tick m n : ℕ) (block : M) →
+        after M.rules inputs tick (m + n) block ≡ after M.rules inputs (tick + m) n (after M.rules inputs tick m block) }
+    ensures within { (inputs : Inputs) (tick n h : ℕ) (block : M) → IsHorizon M.rules inputs tick block (Some h) →
+        (AreCalm M.rules inputs tick n block ↔ (n ≤ h)) }
+    ensures shown { (inputs : Inputs) (tick n : ℕ) (block : M) → AreCalm M.rules inputs tick n block →
+        M.shown (after M.rules inputs tick n block) ≡ M.shown block }
 {}

@@ -1,6 +1,6 @@
-ghost use Rattle.std.specs.Prelude.{◌≡◌, ℕ, ◌+◌, ◌^◌, ◌<◌};
+ghost use Rattle.std.specs.Prelude.{◌≡◌, ℕ, ◌+◌, ◌^◌, ◌<◌, ◌≤◌};
 ghost use Rattle.pb_buses.specs.declared.inputs.Outputs.{Outputs};
-ghost use Rattle.pb_buses.specs.Rules.{Rules, CountsAreUnseen};
+ghost use Rattle.pb_buses.specs.Rules.{Rules, CountsAreUnseen, IsHorizon, AreCalm, after};
 
 use crate::emits::Emit;
 use crate::inputs::{Inputs, Outputs};
@@ -26,6 +26,21 @@ pub trait Machine {
         requires { tick < 2 ^ 62 }
         ensures next { self.new ≡ rules.next self.old inputs.now tick }
         ensures emits { result ≡ rules.emitted self.old inputs.now tick }
+        ensures counts { steps.new ≡ steps.old + 1 };
+
+    /// How many steps under these inputs, from this tick on, are calm before the first that isn't. None
+    /// where all are calm.
+    fn horizon<L: Ledger>(&self, inputs: &Inputs, tick: u64, steps: &mut Steps<L>) -> Option<u128>
+        requires { tick < 2 ^ 62 }
+        ensures horizon { IsHorizon rules inputs.now tick self.now result }
+        ensures counts { steps.new ≡ steps.old + 1 };
+
+    /// So many steps under these inputs at once, all of them calm: as many as the horizon says, or fewer.
+    /// The first is at this tick, and all of them are below tick 2^62.
+    fn coast<L: Ledger>(&mut self, inputs: &Inputs, tick: u64, ticks: u64, steps: &mut Steps<L>)
+        requires calm { AreCalm rules inputs.now tick ticks self.old }
+        requires end { tick + ticks ≤ 2 ^ 62 }
+        ensures left { self.new ≡ after rules inputs.now tick ticks self.old }
         ensures counts { steps.new ≡ steps.old + 1 };
 
     /// What the block shows on the buses, in the order of the catalogue.

@@ -81,6 +81,16 @@ impl Mux {
     {
         self.line = line_later(self.line, selected, ticks);
     }
+
+    /// One tick passes at which this value is selected. What the block sees at it.
+    pub fn take(&mut self, selected: bool) -> bool
+        ensures sees { result ≡ seen self.old selected }
+        ensures left { self.new ≡ shifted self.old selected 1 }
+    {
+        let seen = value_at(self.line, self.delay, selected);
+        self.line = line_next(self.line, selected);
+        seen
+    }
 }
 
 /// The value at this delay of a line with this value in front of it.
@@ -99,5 +109,13 @@ fn line_later(line: u32, selected: bool, ticks: u64) -> u32
     let ticks = ticks.min(31);
     let fill = if selected { (1 << ticks) - 1 } else { 0 };
     let line = (u64::from(line) << ticks) + fill;
+    (line & 0xffff_ffff) as u32
+}
+
+/// The line one tick later, at which this value is selected.
+fn line_next(line: u32, selected: bool) -> u32
+    ensures { digits 31 result ≡ pushed (digits 31 line) selected 1 }
+{
+    let line = 2 * u64::from(line) + u64::from(selected);
     (line & 0xffff_ffff) as u32
 }

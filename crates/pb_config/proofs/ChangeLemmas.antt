@@ -1,5 +1,5 @@
 -- What an assignment tells the box is a change that it takes.
-use Rattle.std.proofs.Common.{◌≡◌, ℕ, ◌-◌, ◌<◌, Bool, true, false, length, Option, Some, None, slice_index_or, IfSome, if◌then◌else◌, refl, sym, subst}
+use Rattle.std.proofs.Common.{◌≡◌, ℕ, ◌-◌, ◌<◌, Bool, true, false, length, Option, Some, None, slice_index_or, List, IfSome, if◌then◌else◌, refl, sym, subst}
 use Rattle.pb_fields.specs.declared.Slot.{Slot}
 use Rattle.pb_fields.specs.declared.FieldType.{FieldType}
 use Rattle.pb_fields.specs.declared.FieldType.TheVariants as types
@@ -10,6 +10,7 @@ use Rattle.pb_fields.specs.Slots.{IsSlot, type_at, attribute_at}
 use Rattle.pb_fields.proofs.RowLemmas.{all_within}
 use Rattle.pb_model.specs.declared.Change.{Change}
 use Rattle.pb_model.specs.declared.Change.TheVariants as changes
+use Rattle.pb_model.specs.declared.Block.{Block}
 use Rattle.pb_model.specs.Changes.{is_taken, is_taken_by, is_taken_role, IsSet, IsChange}
 use Rattle.pb_config.specs.Assigning.{is_assignable_by, is_assignable, target_by, target, changes_box, change_of}
 use Rattle.pb_config.specs.Kept.{is_kept_by, CanBe}
@@ -49,14 +50,14 @@ kept_where_taken t None h = h
 kept_where_taken t (Some attributes.Delay) h = refl
 kept_where_taken t o h = absurd (cc)
 
-change_where : (b : Bool) (slot : Slot) (raw : ℕ) → (b ≡ true → IsSet slot raw) → IfSome (if b then Some (changes.Set slot raw) else None) (λ change. IsChange change)
-change_where true slot raw h = h refl
-change_where false slot raw h = tt
+change_where : (blocks : List Block) (b : Bool) (slot : Slot) (raw : ℕ) → (b ≡ true → IsSet slot raw) → IfSome (if b then Some (changes.Set slot raw) else None) (λ change. IsChange blocks change)
+change_where blocks true slot raw h = h refl
+change_where blocks false slot raw h = tt
 
-pub change_allowed : (slot : Slot) (raw : ℕ) (told : Option Change) → told ≡ change_of slot raw → IsSlot slot → IsSlot (target slot) → is_assignable slot ≡ true → CanBe (target slot) raw → IfSome told (λ change. IsChange change)
-change_allowed slot raw told e s it k r =
-    subst (λ t. IfSome t (λ change. IsChange change)) (sym e)
-    (change_where (changes_box (attribute_at slot)) (target slot) raw (λ h.
+pub change_allowed : (blocks : List Block) (slot : Slot) (raw : ℕ) (told : Option Change) → told ≡ change_of slot raw → IsSlot slot → IsSlot (target slot) → is_assignable slot ≡ true → CanBe (target slot) raw → IfSome told (λ change. IsChange blocks change)
+change_allowed blocks slot raw told e s it k r =
+    subst (λ t. IfSome t (λ change. IsChange blocks change)) (sym e)
+    (change_where blocks (changes_box (attribute_at slot)) (target slot) raw (λ h.
     let taken : is_taken (target slot) ≡ true = taken_by slot (attribute_at slot) s refl k h in
     record {
       in_catalogue = it;

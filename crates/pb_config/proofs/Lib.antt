@@ -1,6 +1,8 @@
 pub mod PlaceLemmas
 pub mod KindLemmas
+pub mod CapturingLemmas
 pub mod ChangeLemmas
+pub mod ClearingLemmas
 pub mod TextLemmas
 pub mod KeptLemmas
 pub mod AssignedLemmas

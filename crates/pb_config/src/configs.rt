@@ -1,6 +1,7 @@
-ghost use Rattle.std.specs.Prelude.{true, false, ◌≡◌, ◌<◌, ◌≤◌, ◌++◌, length, drop, slice_set, IfOk, IfErr, OnOk, OnErr, IfSome};
+ghost use Rattle.std.specs.Prelude.{true, false, List, ◌≡◌, ◌<◌, ◌≤◌, ◌++◌, length, drop, slice_set, IfOk, IfErr, OnOk, OnErr, IfSome};
 ghost use Rattle.pb_fields.specs.Slots.{IsSlot, type_at, attribute_at};
 ghost use Rattle.pb_fields.specs.Values.{IsSpelledKind, IsShownKind};
+ghost use Rattle.pb_model.specs.declared.Block.{Block};
 ghost use Rattle.pb_model.specs.Changes.{IsChange};
 ghost use Rattle.pb_config.specs.Settings.{Settings, place, instance_place, raw_of, text_of, kind_now};
 ghost use Rattle.pb_config.specs.Defaults.{fresh, first_raws, first_texts};
@@ -62,7 +63,7 @@ impl Config {
         requires { IsSlot slot }
         ensures told { result ≡ told self.old slot value.now }
         ensures settings { self.new ≡ after_assignment self.old slot value.now }
-        ensures allowed { IfOk result (λ change. IfSome change (λ told. IsChange told)) }
+        ensures allowed { (blocks : List Block) → IfOk result (λ change. IfSome change (λ told. IsChange blocks told)) }
         ensures same { OnErr result (self.new ≡ self.old) }
     {
         let raw = self.spelled(slot, value)?;
@@ -119,7 +120,7 @@ impl Config {
         }
     }
 
-    fn keep_raw(&mut self, slot: Slot, raw: u64)
+    pub(crate) fn keep_raw(&mut self, slot: Slot, raw: u64)
         requires slot { IsSlot slot }
         requires range { CanBe slot raw }
         ensures { self.new ≡ record self.old { raws = slice_set self.old.raws (place slot) raw } }
@@ -160,6 +161,14 @@ impl Config {
         ensures written { out.new ≡ text_of self.now slot ++ drop (length (text_of self.now slot)) out.old }
     {
         self.texts[instance_place(slot)].put(out)
+    }
+
+    /// The kept text of the slot's instance.
+    pub(crate) fn text(&self, slot: Slot) -> &[u8]
+        requires { IsSlot slot }
+        ensures { result.now ≡ text_of self.now slot }
+    {
+        self.texts[instance_place(slot)].bytes()
     }
 
     /// The kind of the slot's value, a time being in the units in force.

@@ -7,6 +7,8 @@ ghost use Rattle.pb_config.specs.Settings.{Settings, place, raw_of, text_of};
 ghost use Rattle.pb_config.specs.Defaults.{fresh, default_text};
 ghost use Rattle.pb_config.specs.Assigning.{raw_given, target, kept_by, keeps_text, after_assignment};
 ghost use Rattle.pb_config.specs.Reached.{IsReached};
+ghost use Rattle.std.specs.List.{AllByRecursion};
+ghost use Rattle.pb_config.specs.Capturing.{IsCapture, capture_slots};
 
 /// No two slots have the same place.
 #[tactic(auto, using(crate::proofs::PlaceLemmas::one_place))]
@@ -59,4 +61,9 @@ pub fn kept_function_is_the_number()
     ensures { (settings : Settings) (slot : Slot) → IsReached settings → IsSlot slot
         → type_at slot ≡ types.ParamLut → attribute_at slot ≡ None
         → WritesFunction (text_of settings slot) (raw_of settings slot) }
+{}
+
+/// To clear what is captured is to assign No to each CAPTURE: none of them refuses it, and nothing changes in the box.
+pub fn clearing_assigns_no()
+    ensures { AllByRecursion IsCapture capture_slots }
 {}

@@ -5,6 +5,7 @@
 //! `specs/Showing.antt`.
 #![tactic(auto)]
 
+mod capturing;
 mod changing;
 mod configs;
 mod defaults;
@@ -15,10 +16,11 @@ mod scaling;
 mod showing;
 mod texts;
 
+pub use capturing::output;
 pub use configs::Config;
 pub use laws::{
-    assigned_here, fresh_texts, fresh_values, kept_function_is_the_number, others_stay,
-    places_are_distinct, texts_stay,
+    assigned_here, clearing_assigns_no, fresh_texts, fresh_values, kept_function_is_the_number,
+    others_stay, places_are_distinct, texts_stay,
 };
 pub use places::field_slot;
 pub use showing::has_line;

@@ -36,7 +36,7 @@ fn times(value: i32, scale: i64) -> i128
 
 // The decimal that SCALE or OFFSET of the position holds, in billionths.
 #[tactic(auto, using(crate::proofs::ScaledLemmas::decimal_there, crate::proofs::ScaledLemmas::decimal_range))]
-fn decimal_at(config: &Config, slot: Slot, attr: u8) -> i64
+pub(crate) fn decimal_at(config: &Config, slot: Slot, attr: u8) -> i64
     requires slot { IsSlot slot }
     requires scaled { is_scaled slot ≡ true }
     requires from { OFFSET ≤ attr }

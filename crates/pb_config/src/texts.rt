@@ -51,6 +51,13 @@ impl KeptText {
         self.len = take_out_spaces(text, &mut self.bytes);
     }
 
+    /// The text.
+    pub fn bytes(&self) -> &[u8]
+        ensures { result.now ≡ self.now }
+    {
+        &self.bytes[..self.len]
+    }
+
     /// Writes the text at the front of `out`, and answers its length.
     pub fn put(&self, out: &mut [u8]) -> usize
         requires { 128 ≤ length out.old }

@@ -1,5 +1,5 @@
 -- Events leave the box with the settings that the core has.
-use Rattle.std.proofs.Common.{◌≡◌, ◌≢◌, ℕ, zero, suc, ◌+◌, ◌-◌, ◌==◌, ◌||◌, Bool, true, false, not, List, [], ◌∷◌, get_or, codes, Option, Some, None, Result, Ok, Err, refl, sym, ap, subst, ◌∙◌, arith, if◌then◌else◌}
+use Rattle.std.proofs.Common.{◌≡◌, ◌≢◌, ℕ, zero, suc, ◌+◌, ◌-◌, ◌==◌, ◌||◌, Bool, true, false, not, List, [], ◌∷◌, get_or, slice_set, codes, Option, Some, None, Result, Ok, Err, refl, sym, ap, subst, ◌∙◌, arith, if◌then◌else◌}
 use Rattle.std.proofs.lemmas.Bool.{eqb-true, eqb-false}
 use Rattle.pb_words.specs.declared.Refusal.{Refusal}
 use Rattle.pb_words.specs.declared.Refusal.TheVariants as refusals
@@ -21,7 +21,7 @@ use Rattle.pb_model.specs.Tick as model
 use Rattle.pb_model.specs.Kept.{IsWhole}
 use Rattle.pb_model.specs.Settings.{changed_box}
 use Rattle.pb_model.specs.Staying.{IsKept, HasValue}
-use Rattle.pb_model.proofs.StandLemmas.{has_it, still_has, has_after, has_put, has_written, has_first, whole_set, whole_after, whole_written, whole_first}
+use Rattle.pb_model.proofs.StandLemmas.{has_it, still_has, has_after, has_put, has_written, has_armed, has_disarmed, has_first, whole_set, whole_after, whole_written, whole_armed, whole_disarmed, whole_first}
 use Rattle.pb_config.specs.Settings.{Settings, raw_of, place, field_slot}
 use Rattle.pb_config.specs.Defaults.{fresh}
 use Rattle.pb_config.specs.Assigning.{is_assignable, is_assignable_by, raw_given, target, target_by, changes_box, assigned, after_by}
@@ -34,10 +34,15 @@ use Rattle.pb_core.specs.declared.targets.Named.{Named}
 use Rattle.pb_core.specs.declared.targets.Named.TheVariants as names
 use Rattle.pb_core.specs.declared.events.Event.{Event}
 use Rattle.pb_core.specs.declared.events.Event.TheVariants as events
-use Rattle.pb_core.specs.Tick.{tick, ticks, driven}
-use Rattle.pb_core.specs.Core.{CoreState, opening}
+use Rattle.pb_core.specs.Tick.{tick, driven}
+use Rattle.pb_core.specs.Core.{CoreState, opening, ticked, ticks_of_core}
+use Rattle.std.specs.List.{AllByRecursion}
+use Rattle.pb_acquire.specs.Acquisitions.{room_of}
+use Rattle.pb_config.specs.Capturing.{IsCapture, capture_slots, cleared, layout_of}
+use Rattle.pb_config.proofs.ClearingLemmas.{all_captures}
+use Rattle.pb_core.specs.Captures.{CaptureDeed, clears, arms, disarms, without_value, arming, disarming}
 use Rattle.pb_core.specs.Naming.{named_by}
-use Rattle.pb_core.specs.Assignments.{given, changed_by, named_given}
+use Rattle.pb_core.specs.Assignments.{given, gives, captures, with_given, changed_by, named_given}
 use Rattle.pb_core.specs.Writing.{Written, table_write}
 use Rattle.pb_core.specs.Answer.{left_by, written_by, said_after, after, after_all}
 use Rattle.pb_core.specs.Holding.{HasSettings}
@@ -142,7 +147,7 @@ module _ (settings next : Settings) (t : Slot) (raw : ℕ) (box : Box) (s : IsSl
   has_same never u k = subst (HasValue box u) (sym (others u k.in_catalogue (never u k))) (h u k)
 
 assigned_holds : (core : CoreState) (slot : Slot) (text : List ℕ) (raw : ℕ) → raw_given core.settings slot text ≡ Ok raw → IsSlot slot → Holds core →
-    Holds (left_by core (Ok (given slot text raw)))
+    Holds (with_given core (given slot text raw))
 assigned_holds core slot text raw e s h =
     record {
       reached = subst IsReached (ap (after_by core.settings slot text) e) (by_assignment core.settings slot text s h.reached);
@@ -174,14 +179,56 @@ assigned_holds core slot text raw e s h =
         subst (HasValue core.box u) (sym same) (h.has u k)
 
 slot_holds : (core : CoreState) (slot : Slot) (text : List ℕ) (told : Result ℕ Refusal) → raw_given core.settings slot text ≡ told → IsSlot slot → Holds core →
-    Holds (left_by core (result_map (given slot text) told))
+    Holds (left_by core (result_map gives (result_map (given slot text) told)))
 slot_holds core slot text (Err refusal) e s h = h
 slot_holds core slot text (Ok raw) e s h = assigned_holds core slot text raw e s h
 
-left_holds : (core : CoreState) (text : List ℕ) (r : Result Named Refusal) → IsFound r → Holds core → Holds (left_by core (result_then r (named_given core.settings text)))
+with_settings : CoreState → Settings → CoreState
+with_settings core settings = record { rows = core.rows; settings = settings; box = core.box; acquisitions = core.acquisitions }
+
+quiet_given : (c : Bool) (core : CoreState) (slot : Slot) → c ≡ false →
+    changed_by (if c then Some (changes.Set (target slot) 0) else None) core.box ≡ core.box
+quiet_given true core slot e = cc
+quiet_given false core slot e = refl
+
+-- No is assigned to one CAPTURE after the other
+cleared_holds : (slots : List Slot) (core : CoreState) → AllByRecursion IsCapture slots → Holds core → Holds (with_settings core (cleared slots core.settings))
+unfolding with_settings
+cleared_holds [] core all h = h
+cleared_holds (slot ∷ slots) core all h =
+    let one : Holds (with_given core (given slot (codes "No") 0)) =
+    assigned_holds core slot (codes "No") 0 (all.0.told core.settings) all.0.in_catalogue h in
+    let same : Holds (with_settings core (assigned core.settings slot (codes "No") 0)) =
+    subst (λ b. Holds (record { rows = core.rows; settings = assigned core.settings slot (codes "No") 0; box = b; acquisitions = core.acquisitions }))
+    (quiet_given (changes_box (attribute_at slot)) core slot all.0.quiet) one in
+    cleared_holds slots (with_settings core (record { raws = slice_set core.settings.raws (place slot) 0; texts = core.settings.texts })) all.1
+    (subst (λ s. Holds (with_settings core s)) (all.0.left core.settings) same)
+
+deed_holds : (core : CoreState) (deed : Result CaptureDeed Refusal) → Holds core → Holds (left_by core (result_map captures deed))
+unfolding with_settings
+deed_holds core (Ok clears) h = cleared_holds capture_slots core all_captures h
+deed_holds core (Ok (arms layout)) h =
+    record {
+      reached = h.reached;
+      whole = whole_armed core.box (room_of layout) h.whole;
+      has = λ u k. has_armed core.box u (raw_of core.settings u) (h.has u k) h.whole (room_of layout);
+    }
+deed_holds core (Ok disarms) h =
+    record {
+      reached = h.reached;
+      whole = whole_disarmed core.box h.whole;
+      has = λ u k. has_disarmed core.box u (raw_of core.settings u) (h.has u k) h.whole;
+    }
+deed_holds core (Err refusal) h = h
+
+left_holds : (core : CoreState) (text : List ℕ) (r : Result Named Refusal) → IsFound r → Holds core →
+    Holds (left_by core (result_then r (named_given core.settings core.acquisitions text)))
 unfolding IsFound IsSlotThere
 left_holds core text (Err refusal) f h = h
 left_holds core text (Ok (names.Value slot)) f h = slot_holds core slot text (raw_given core.settings slot text) refl f h
+left_holds core text (Ok names.Captures) f h = deed_holds core (without_value text (Ok clears)) h
+left_holds core text (Ok names.Arming) f h = deed_holds core (without_value text (arming core.acquisitions (layout_of core.settings))) h
+left_holds core text (Ok names.Disarming) f h = deed_holds core (without_value text (disarming core.acquisitions)) h
 left_holds core text (Ok named) f h = h
 
 table_holds : (core : CoreState) (r : Result Written Refusal) → Holds core → Holds (written_by core r)
@@ -214,16 +261,16 @@ tick_holds settings rows box h =
       has = λ u k. has_put (model.tick box) u (raw_of settings u) (has_after box u (raw_of settings u) (h.has u k) k h.whole) (driven rows (box.stands.tick + 1) (model.tick box).stands.bus);
     }
 
-ticks_hold : (n : ℕ) (settings : Settings) (rows : List Row) (box : Box) → BoxHolds settings box → BoxHolds settings (ticks n rows box)
-ticks_hold zero settings rows box h = h
-ticks_hold (suc n) settings rows box h = ticks_hold n settings rows (tick rows box) (tick_holds settings rows box h)
+ticks_hold : (n : ℕ) (core : CoreState) → Holds core → Holds (ticks_of_core n core)
+ticks_hold zero core h = h
+ticks_hold (suc n) core h =
+    let b : BoxHolds core.settings (tick core.rows core.box) = tick_holds core.settings core.rows core.box (record { whole = h.whole; has = h.has }) in
+    ticks_hold n (ticked core) (record { reached = h.reached; whole = b.whole; has = b.has })
 
 event_holds : (core : CoreState) (event : Event) → Holds core → Holds (after core event)
 event_holds core (events.Line id text) h = said_holds core (command_of text) h
 event_holds core (events.Bad id refusal) h = h
-event_holds core (events.Advance to) h =
-    let b = ticks_hold (to - core.box.stands.tick) core.settings core.rows core.box (record { whole = h.whole; has = h.has }) in
-    record { reached = h.reached; whole = b.whole; has = b.has }
+event_holds core (events.Advance to) h = ticks_hold (to - core.box.stands.tick) core h
 
 all_hold : (core : CoreState) (happened : List Event) → Holds core → Holds (after_all core happened)
 all_hold core [] h = h

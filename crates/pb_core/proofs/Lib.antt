@@ -1,4 +1,6 @@
 pub mod CoreLemmas
+pub mod DeedLemmas
+pub mod ToldLemmas
 pub mod FieldLemmas
 pub mod HoldingLemmas
 pub mod LevelLemmas

@@ -1,5 +1,5 @@
 -- Events leave the bit inputs as the settings have them.
-use Rattle.std.proofs.Common.{◌≡◌, ◌≢◌, ℕ, zero, suc, ◌-◌, ◌==◌, ◌&&◌, ◌||◌, Bool, true, false, not, List, [], ◌∷◌, get_or, codes, Option, Some, None, Result, Ok, Err, refl, sym, ap, subst, ◌∙◌, arith, if◌then◌else◌}
+use Rattle.std.proofs.Common.{◌≡◌, ◌≢◌, ℕ, zero, suc, ◌-◌, ◌==◌, ◌&&◌, ◌||◌, Bool, true, false, not, List, [], ◌∷◌, get_or, slice_set, codes, Option, Some, None, Result, Ok, Err, refl, sym, ap, subst, ◌∙◌, arith, if◌then◌else◌}
 use Rattle.std.proofs.lemmas.Bool.{eqb-true}
 use Rattle.pb_words.specs.declared.Refusal.{Refusal}
 use Rattle.pb_words.specs.declared.Refusal.TheVariants as refusals
@@ -21,7 +21,7 @@ use Rattle.pb_model.specs.declared.Change.{Change}
 use Rattle.pb_model.specs.declared.Change.TheVariants as changes
 use Rattle.pb_model.specs.Tick.{Box, is_bit_mux}
 use Rattle.pb_model.specs.Settings.{blocks_with}
-use Rattle.pb_config.specs.Settings.{Settings, raw_of}
+use Rattle.pb_config.specs.Settings.{Settings, raw_of, place}
 use Rattle.pb_config.specs.Assigning.{is_assignable, is_assignable_by, raw_given, target, target_by, changes_box, assigned, after_by}
 use Rattle.pb_config.specs.Reached.{IsReached, at_first, by_assignment}
 use Rattle.pb_config.proofs.AssignedLemmas.{others_stay, value_here}
@@ -30,13 +30,18 @@ use Rattle.pb_core.specs.declared.targets.Named.{Named}
 use Rattle.pb_core.specs.declared.targets.Named.TheVariants as names
 use Rattle.pb_core.specs.declared.events.Event.{Event}
 use Rattle.pb_core.specs.declared.events.Event.TheVariants as events
-use Rattle.pb_core.specs.Tick.{tick, ticks}
-use Rattle.pb_core.specs.Core.{CoreState, opening}
+use Rattle.pb_core.specs.Core.{CoreState, opening, ticked, ticks_of_core}
+use Rattle.std.specs.List.{AllByRecursion}
+use Rattle.pb_acquire.specs.Acquisitions.{room_of}
+use Rattle.pb_model.specs.Units.{armed, disarmed}
+use Rattle.pb_config.specs.Capturing.{IsCapture, capture_slots, cleared, layout_of}
+use Rattle.pb_config.proofs.ClearingLemmas.{all_captures}
+use Rattle.pb_core.specs.Captures.{CaptureDeed, clears, arms, disarms, without_value, arming, disarming}
 use Rattle.pb_core.specs.Naming.{named_by}
-use Rattle.pb_core.specs.Assignments.{given, changed_by, named_given}
+use Rattle.pb_core.specs.Assignments.{given, gives, captures, with_given, changed_by, named_given}
 use Rattle.pb_core.specs.Writing.{Written, table_write}
 use Rattle.pb_core.specs.Answer.{left_by, said_after, after, after_all, written_by}
-use Rattle.pb_core.proofs.TableLemmas.{holds_table}
+use Rattle.pb_core.proofs.TableLemmas.{holds_table, holds_capture}
 use Rattle.pb_core.specs.Muxes.{IsMux, delay_of, MuxesAreSet}
 use Rattle.pb_core.proofs.MuxLemmas.{Holds, holds_first, holds_tick, holds_delayed, holds_own, holds_same, input_is, mux_type}
 use Rattle.pb_core.proofs.ReachedLemmas.{IsSlotThere, IsFound, found_by}
@@ -154,7 +159,7 @@ record Stands (core : CoreState) : Type 0 where
   held : Holds core.settings core.box.stands.blocks
 
 slot_left : (core : CoreState) (slot : Slot) (text : List ℕ) (told : Result ℕ Refusal) → raw_given core.settings slot text ≡ told → IsSlot slot → Stands core →
-    Stands (left_by core (result_map (given slot text) told))
+    Stands (left_by core (result_map gives (result_map (given slot text) told)))
 slot_left core slot text (Err refusal) e s h = h
 slot_left core slot text (Ok raw) e s h =
     record {
@@ -165,10 +170,44 @@ slot_left core slot text (Ok raw) e s h =
           (others core.settings slot text raw core.box h.reached s e h.held) h.held;
     }
 
-left : (core : CoreState) (text : List ℕ) (r : Result Named Refusal) → IsFound r → Stands core → Stands (left_by core (result_then r (named_given core.settings text)))
+with_settings : CoreState → Settings → CoreState
+with_settings core settings = record { rows = core.rows; settings = settings; box = core.box; acquisitions = core.acquisitions }
+
+quiet_given : (c : Bool) (core : CoreState) (slot : Slot) → c ≡ false →
+    changed_by (if c then Some (changes.Set (target slot) 0) else None) core.box ≡ core.box
+quiet_given true core slot e = cc
+quiet_given false core slot e = refl
+
+-- No is assigned to one CAPTURE after the other
+cleared_left : (slots : List Slot) (core : CoreState) → AllByRecursion IsCapture slots → Stands core → Stands (with_settings core (cleared slots core.settings))
+unfolding with_settings
+cleared_left [] core all h = h
+cleared_left (slot ∷ slots) core all h =
+    let one : Stands (with_given core (given slot (codes "No") 0)) =
+    slot_left core slot (codes "No") (Ok 0) (all.0.told core.settings) all.0.in_catalogue h in
+    let same : Stands (with_settings core (assigned core.settings slot (codes "No") 0)) =
+    subst (λ b. Stands (record { rows = core.rows; settings = assigned core.settings slot (codes "No") 0; box = b; acquisitions = core.acquisitions }))
+    (quiet_given (changes_box (attribute_at slot)) core slot all.0.quiet) one in
+    cleared_left slots (with_settings core (record { raws = slice_set core.settings.raws (place slot) 0; texts = core.settings.texts })) all.1
+    (subst (λ s. Stands (with_settings core s)) (all.0.left core.settings) same)
+
+deed_left : (core : CoreState) (deed : Result CaptureDeed Refusal) → Stands core → Stands (left_by core (result_map captures deed))
+unfolding with_settings
+deed_left core (Ok clears) h = cleared_left capture_slots core all_captures h
+deed_left core (Ok (arms layout)) h =
+    record { reached = h.reached; held = holds_capture core.settings core.box.stands.blocks (armed (room_of layout)) h.held }
+deed_left core (Ok disarms) h =
+    record { reached = h.reached; held = holds_capture core.settings core.box.stands.blocks disarmed h.held }
+deed_left core (Err refusal) h = h
+
+left : (core : CoreState) (text : List ℕ) (r : Result Named Refusal) → IsFound r → Stands core →
+    Stands (left_by core (result_then r (named_given core.settings core.acquisitions text)))
 unfolding IsFound IsSlotThere
 left core text (Err refusal) f h = h
 left core text (Ok (names.Value slot)) f h = slot_left core slot text (raw_given core.settings slot text) refl f h
+left core text (Ok names.Captures) f h = deed_left core (without_value text (Ok clears)) h
+left core text (Ok names.Arming) f h = deed_left core (without_value text (arming core.acquisitions (layout_of core.settings))) h
+left core text (Ok names.Disarming) f h = deed_left core (without_value text (disarming core.acquisitions)) h
 left core text (Ok named) f h = h
 
 table_left : (core : CoreState) (r : Result Written Refusal) → Stands core → Stands (written_by core r)
@@ -184,15 +223,16 @@ said_left core (Table target append base64 body) h = table_left core (table_writ
 said_left core (Echo text) h = h
 said_left core (Bad refusal) h = h
 
-ticks_left : (n : ℕ) (settings : Settings) (rows : List Row) (box : Box) → Holds settings box.stands.blocks → Holds settings (ticks n rows box).stands.blocks
-ticks_left zero settings rows box h = h
-ticks_left (suc n) settings rows box h = ticks_left n settings rows (tick rows box) (holds_tick box.stands.bus box.stands.tick settings box.stands.blocks h)
+ticks_left : (n : ℕ) (core : CoreState) → Stands core → Stands (ticks_of_core n core)
+ticks_left zero core h = h
+ticks_left (suc n) core h =
+    ticks_left n (ticked core)
+    (record { reached = h.reached; held = holds_tick core.box.stands.bus core.box.stands.tick core.settings core.box.stands.blocks h.held })
 
 event_left : (core : CoreState) (event : Event) → Stands core → Stands (after core event)
 event_left core (events.Line id text) h = said_left core (command_of text) h
 event_left core (events.Bad id refusal) h = h
-event_left core (events.Advance to) h =
-    record { reached = h.reached; held = ticks_left (to - core.box.stands.tick) core.settings core.rows core.box h.held }
+event_left core (events.Advance to) h = ticks_left (to - core.box.stands.tick) core h
 
 all_left : (core : CoreState) (happened : List Event) → Stands core → Stands (after_all core happened)
 all_left core [] h = h

@@ -1,5 +1,5 @@
 -- The settings of a core that events reach.
-use Rattle.std.proofs.Common.{◌≡◌, ℕ, Bool, true, false, List, [], ◌∷◌, codes, Option, Some, None, Result, Ok, Err, IfOk, if◌then◌else◌, refl, subst}
+use Rattle.std.proofs.Common.{◌≡◌, ℕ, zero, suc, ◌-◌, ap, ◌∙◌, Bool, true, false, List, [], ◌∷◌, codes, Option, Some, None, Result, Ok, Err, IfOk, if◌then◌else◌, refl, subst}
 use Rattle.std.specs.Option.{option_map_or}
 use Rattle.pb_words.specs.declared.Refusal.{Refusal}
 use Rattle.pb_words.specs.declared.Refusal.TheVariants as refusals
@@ -16,9 +16,14 @@ use Rattle.pb_core.specs.declared.targets.Named.{Named}
 use Rattle.pb_core.specs.declared.targets.Named.TheVariants as names
 use Rattle.pb_core.specs.declared.events.Event.{Event}
 use Rattle.pb_core.specs.declared.events.Event.TheVariants as events
-use Rattle.pb_core.specs.Core.{CoreState, opening}
-use Rattle.pb_core.specs.Naming.{is_same, has_point, labels_named, star_named, listing_named, block_named, named_by}
-use Rattle.pb_core.specs.Assignments.{given, named_given}
+use Rattle.pb_core.specs.Core.{CoreState, opening, ticked, ticks_of_core}
+use Rattle.std.specs.List.{AllByRecursion}
+use Rattle.pb_config.specs.Settings.{Settings}
+use Rattle.pb_config.specs.Capturing.{IsCapture, capture_slots, cleared, layout_of}
+use Rattle.pb_config.proofs.ClearingLemmas.{all_captures}
+use Rattle.pb_core.specs.Captures.{CaptureDeed, clears, arms, disarms, without_value, arming, disarming}
+use Rattle.pb_core.specs.Naming.{is_same, has_point, labels_named, capture_named, star_named, listing_named, block_named, named_by}
+use Rattle.pb_core.specs.Assignments.{given, gives, captures, named_given}
 use Rattle.pb_core.specs.Writing.{Written, table_write}
 use Rattle.pb_core.specs.Answer.{left_by, written_by, said_after, after, after_all}
 
@@ -68,13 +73,25 @@ labelled_found None = refused refusals.NoSuchField
 labelled_found (Some target) =
     either (has_point target) _ _ (labels_found (found_of target)) (refused refusals.NoSuchField)
 
+captured_found : (rest : Option (List ℕ)) (other : Result Named Refusal) → IsFound other → IsFound (option_map_or capture_named rest other)
+unfolding IsSlotThere
+captured_found None other h = h
+captured_found (Some name) other h =
+    either (is_same name (codes "ARM")) _ _ (known names.Arming tt)
+    (either (is_same name (codes "DISARM")) _ _ (known names.Disarming tt)
+    (either (is_same name (codes "STATUS")) _ _ (known names.Status tt)
+    (either (is_same name (codes "CAPTURED")) _ _ (known names.Captured tt)
+    (either (is_same name (codes "COMPLETION")) _ _ (known names.Completion tt) (refused refusals.NoSuchField)))))
+
 star_found : (name : List ℕ) → IsFound (star_named name)
 unfolding IsSlotThere
 star_found name =
     either (is_same name (codes "IDN")) _ _ (known names.Identity tt)
     (either (is_same name (codes "BLOCKS")) _ _ (known names.Blocks tt)
     (either (is_same name (codes "POSITIONS")) _ _ (known names.Positions tt)
-    (labelled_found (after_front (codes "ENUMS.") name))))
+    (either (is_same name (codes "CAPTURE")) _ _ (known names.Captures tt)
+    (captured_found (after_front (codes "PCAP.") name) (option_map_or labels_named (after_front (codes "ENUMS.") name) (Err refusals.NoSuchField))
+    (labelled_found (after_front (codes "ENUMS.") name))))))
 
 listing_found : (target : List ℕ) (front : Option (List ℕ)) → IsFound (option_map_or listing_named front (result_map names.Value (found_of target)))
 listing_found target None = value_found (found_of target) (λ slot e. (found_of-named target slot e).0)
@@ -87,15 +104,34 @@ found_by target (Some name) = star_found name
 
 -- what an event leaves
 
-slot_left : (core : CoreState) (slot : Slot) (text : List ℕ) (r : Result ℕ Refusal) → after_by core.settings slot text r ≡ (left_by core (result_map (given slot text) r)).settings
+slot_left : (core : CoreState) (slot : Slot) (text : List ℕ) (r : Result ℕ Refusal) →
+    after_by core.settings slot text r ≡ (left_by core (result_map gives (result_map (given slot text) r))).settings
 slot_left core slot text (Ok raw) = refl
 slot_left core slot text (Err refusal) = refl
 
-left : (core : CoreState) (text : List ℕ) (r : Result Named Refusal) → IsFound r → IsReached core.settings → IsReached (left_by core (result_then r (named_given core.settings text))).settings
+-- where nothing is captured any more, No was assigned to each CAPTURE
+cleared_reached : (slots : List Slot) (settings : Settings) → AllByRecursion IsCapture slots → IsReached settings → IsReached (cleared slots settings)
+cleared_reached [] settings all h = h
+cleared_reached (slot ∷ slots) settings all h =
+    cleared_reached slots _ all.1
+    (subst IsReached (ap (after_by settings slot (codes "No")) (all.0.told settings) ∙ all.0.left settings)
+    (by_assignment settings slot (codes "No") all.0.in_catalogue h))
+
+deed_left : (core : CoreState) (deed : Result CaptureDeed Refusal) → IsReached core.settings → IsReached (left_by core (result_map captures deed)).settings
+deed_left core (Ok clears) h = cleared_reached capture_slots core.settings all_captures h
+deed_left core (Ok (arms layout)) h = h
+deed_left core (Ok disarms) h = h
+deed_left core (Err refusal) h = h
+
+left : (core : CoreState) (text : List ℕ) (r : Result Named Refusal) → IsFound r → IsReached core.settings →
+    IsReached (left_by core (result_then r (named_given core.settings core.acquisitions text))).settings
 unfolding IsFound IsSlotThere
 left core text (Err refusal) f h = h
 left core text (Ok (names.Value slot)) f h =
     subst IsReached (slot_left core slot text (raw_given core.settings slot text)) (by_assignment core.settings slot text f h)
+left core text (Ok names.Captures) f h = deed_left core (without_value text (Ok clears)) h
+left core text (Ok names.Arming) f h = deed_left core (without_value text (arming core.acquisitions (layout_of core.settings))) h
+left core text (Ok names.Disarming) f h = deed_left core (without_value text (disarming core.acquisitions)) h
 left core text (Ok named) f h = h
 
 table_left : (core : CoreState) (r : Result Written Refusal) → IsReached core.settings → IsReached (written_by core r).settings
@@ -110,10 +146,14 @@ said_left core (Table target append base64 body) h = table_left core (table_writ
 said_left core (Echo text) h = h
 said_left core (Bad refusal) h = h
 
+ticks_left : (n : ℕ) (core : CoreState) → IsReached core.settings → IsReached (ticks_of_core n core).settings
+ticks_left zero core h = h
+ticks_left (suc n) core h = ticks_left n (ticked core) h
+
 event_left : (core : CoreState) (event : Event) → IsReached core.settings → IsReached (after core event).settings
 event_left core (events.Line id text) h = said_left core (command_of text) h
 event_left core (events.Bad id refusal) h = h
-event_left core (events.Advance to) h = h
+event_left core (events.Advance to) h = ticks_left (to - core.box.stands.tick) core h
 
 all_left : (core : CoreState) (happened : List Event) → IsReached core.settings → IsReached (after_all core happened).settings
 all_left core [] h = h

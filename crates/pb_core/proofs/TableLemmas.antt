@@ -21,7 +21,10 @@ use Rattle.pb_config.proofs.KindLemmas.{which, unlike}
 use Rattle.pb_config.proofs.TextLemmas.{all_of, at_each}
 use Rattle.pb_tables.specs.Computed.{answer_of}
 use Rattle.pb_model.specs.declared.Block.{Block}
-use Rattle.pb_model.specs.Machines.{machines, place_in}
+use Rattle.pb_names.specs.declared.pcap.TheConstants as pcap
+use Rattle.pb_model.specs.declared.Unit.{Unit as AnyUnit}
+use Rattle.pb_model.specs.Arming.{capture, with_unit}
+use Rattle.pb_model.specs.Machines.{machines, place_in, with_named}
 use Rattle.pb_model.specs.Tick.{opening_block}
 use Rattle.pb_model.specs.Kept.{Kept}
 use Rattle.pb_model.specs.Settings.{block_of_slot}
@@ -111,7 +114,7 @@ table_refused (Ok words) number refusal e = absurd (cc)
 table_refused (Err other) number refusal e = let same : refusal ≡ other = cc in ap answers.Error same
 
 pub table_kept : (core : KeptCore) (number : ℕ) (left : Result (List ℕ) Refusal) →
-    record { rows = core.rows; settings = core.settings; box = table_left core.box number left }
+    record { rows = core.rows; settings = core.settings; box = table_left core.box number left; acquisitions = core.acquisitions }
     ≡ kept_written_by core (result_map (left_to number) left)
 table_kept core number (Ok words) = refl
 table_kept core number (Err refusal) = refl
@@ -138,5 +141,25 @@ holds_table settings blocks number words h =
           ∙ h.selections slot m;
       delays = λ slot m.
           keeps_list (λ x. x.delay) (block_with_words words) (λ b q. refl) blocks k (place_in machines (block_of_slot slot)) slot.field d (opening_block slot.block)
+          ∙ h.delays slot m;
+    })
+
+-- and so they do where PCAP is armed or disarmed
+pub holds_capture : (settings : Settings) (blocks : List Block) (change : AnyUnit → AnyUnit) → Holds settings blocks →
+    Holds settings (with_named machines capture (with_unit change) blocks)
+holds_capture settings blocks change h =
+    let k : ℕ = place_in machines capture in
+    let d : Block = opening_block pcap.BLOCK in
+    let named : with_named machines capture (with_unit change) blocks ≡ set blocks k (with_unit change (get_or blocks k d)) =
+    named_is_set machines capture (with_unit change) blocks d (h.many ∙ sym machines_are_many) in
+    subst (λ l. Holds settings l) (sym named)
+    (record {
+      many = length-set blocks k (with_unit change (get_or blocks k d)) ∙ h.many;
+      full = all_set blocks k (with_unit change) d (λ b. refl) h.full;
+      selections = λ slot m.
+          keeps_list (λ x. x.select) (with_unit change) (λ b q. refl) blocks k (place_in machines (block_of_slot slot)) slot.field d (opening_block slot.block)
+          ∙ h.selections slot m;
+      delays = λ slot m.
+          keeps_list (λ x. x.delay) (with_unit change) (λ b q. refl) blocks k (place_in machines (block_of_slot slot)) slot.field d (opening_block slot.block)
           ∙ h.delays slot m;
     })

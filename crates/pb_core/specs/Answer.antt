@@ -1,5 +1,5 @@
 -- One event: what it answers, and what it leaves.
-use Rattle.std.specs.Prelude.{ℕ, ◌-◌, ◌<◌, ◌^◌, max, List, [], ◌∷◌, Result, Ok, Err, codes}
+use Rattle.std.specs.Prelude.{◌≡◌, ℕ, ◌-◌, ◌<◌, ◌≤◌, ◌^◌, true, max, List, [], ◌∷◌, Result, Ok, Err, codes}
 use Rattle.pb_words.specs.declared.Refusal.{Refusal}
 use Rattle.pb_words.specs.Refusals.{line_of}
 use Rattle.pb_grammar.specs.Grammar.{Said, Query, Assign, Table, Echo, Bad, command_of}
@@ -10,10 +10,15 @@ use Rattle.pb_core.specs.declared.events.Answer.{Answer}
 use Rattle.pb_core.specs.declared.events.Answer.TheVariants as answers
 use Rattle.pb_model.specs.Tick.{Standing}
 use Rattle.pb_config.specs.Settings.{Settings}
-use Rattle.pb_core.specs.Tick.{ticks}
-pub use Rattle.pb_core.specs.Core.{CoreState, opening, with_box}
+pub use Rattle.pb_core.specs.Core.{CoreState, opening, with_box, ticks_of_core}
+use Rattle.pb_core.specs.declared.events.Why.TheVariants as whys
+use Rattle.pb_acquire.specs.Acquisitions.{AllAcquisitions}
+use Rattle.pb_buses.specs.Rules.{is_record}
+use Rattle.pb_model.specs.Tick.{emitted_of}
+use Rattle.pb_core.specs.Naming.{named_by}
+use Rattle.pb_core.specs.declared.targets.Named.TheVariants as names
 use Rattle.pb_core.specs.Queries.{query_reply}
-use Rattle.pb_core.specs.Assignments.{Given, with_given, assignment}
+use Rattle.pb_core.specs.Assignments.{Deed, with_deed, assignment}
 use Rattle.pb_core.specs.Writing.{Written, with_written, table_write}
 
 -- Commands.
@@ -28,9 +33,9 @@ abbrev pub done : {X : Type 0} → Result X Refusal → Answer
 done (Ok new) = answers.Ok
 done (Err refusal) = answers.Error refusal
 
--- the core where this was given, or as it was
-abbrev pub left_by : CoreState → Result Given Refusal → CoreState
-left_by core (Ok new) = with_given core new
+-- the core where this was done, or as it was
+abbrev pub left_by : CoreState → Result Deed Refusal → CoreState
+left_by core (Ok deed) = with_deed core deed
 left_by core (Err refusal) = core
 
 -- the core where a table write left these words, or as it was
@@ -38,18 +43,18 @@ abbrev pub written_by : CoreState → Result Written Refusal → CoreState
 written_by core (Ok new) = with_written core new
 written_by core (Err refusal) = core
 
--- the answer to a command, by the settings and what stands in the box
-abbrev pub said_answer : Settings → Standing → Said → Answer
-said_answer settings box (Query target) = replied (query_reply settings box target)
-said_answer settings box (Assign target value) = done (assignment settings target value)
-said_answer settings box (Table target append base64 body) = done (table_write box target append base64 body)
-said_answer settings box (Echo text) = answers.Reply (value_reply text)
-said_answer settings box (Bad refusal) = answers.Error refusal
+-- the answer to a command, by the settings, what stands in the box and the acquisitions
+abbrev pub said_answer : Settings → Standing → AllAcquisitions → Said → Answer
+said_answer settings box all (Query target) = replied (query_reply settings box all target)
+said_answer settings box all (Assign target value) = done (assignment settings all target value)
+said_answer settings box all (Table target append base64 body) = done (table_write box target append base64 body)
+said_answer settings box all (Echo text) = answers.Reply (value_reply text)
+said_answer settings box all (Bad refusal) = answers.Error refusal
 
 -- the core after a command: only an assignment or a table write that is accepted changes it
 abbrev pub said_after : CoreState → Said → CoreState
 said_after core (Query target) = core
-said_after core (Assign target value) = left_by core (assignment core.settings target value)
+said_after core (Assign target value) = left_by core (assignment core.settings core.acquisitions target value)
 said_after core (Table target append base64 body) =
     written_by core (table_write core.box.stands target append base64 body)
 said_after core (Echo text) = core
@@ -59,7 +64,7 @@ said_after core (Bad refusal) = core
 
 -- the core after the ticks up to this one; a tick below now changes nothing
 abbrev pub advanced : CoreState → ℕ → CoreState
-advanced core to = with_box core (ticks (to - core.box.stands.tick) core.rows core.box)
+advanced core to = ticks_of_core (to - core.box.stands.tick) core
 
 -- what may happen: the box goes to a tick below 2^62
 abbrev pub CanHappen : Event → Type 0
@@ -69,9 +74,9 @@ CanHappen (events.Advance to) = to < 2 ^ 62
 
 -- what an event answers
 abbrev pub answer : CoreState → Event → Answer
-answer core (events.Line id text) = said_answer core.settings core.box.stands (command_of text)
+answer core (events.Line id text) = said_answer core.settings core.box.stands core.acquisitions (command_of text)
 answer core (events.Bad id refusal) = answers.Error refusal
-answer core (events.Advance to) = answers.Reached (max core.box.stands.tick to)
+answer core (events.Advance to) = answers.Reached (max core.box.stands.tick to) whys.Target
 
 -- the core after an event
 abbrev pub after : CoreState → Event → CoreState
@@ -95,11 +100,39 @@ abbrev pub bytes_of : Answer → List ℕ
 bytes_of answers.Ok = codes "OK\n"
 bytes_of (answers.Reply text) = text
 bytes_of (answers.Error refusal) = line_of refusal
-bytes_of (answers.Reached tick) = []
+bytes_of (answers.Reached tick why) = []
 
--- the answers that may lack memory
+-- Want of memory.
+
 abbrev pub IsReply : Answer → Type 0
-IsReply answers.Ok = ⊥
 IsReply (answers.Reply text) = Unit {0}
-IsReply (answers.Error refusal) = ⊥
-IsReply (answers.Reached tick) = ⊥
+IsReply _ = ⊥
+
+-- an assignment that is answered so arms an acquisition
+abbrev pub Arms : List ℕ → Answer → Type 0
+Arms target told = (named_by target ≡ Ok names.Arming) × (told ≡ answers.Ok)
+
+-- The answers that may lack memory: a reply, and that an acquisition is armed.
+abbrev pub MayLack : Said → Answer → Type 0
+MayLack (Assign target value) told = Arms target told
+MayLack said told = IsReply told
+
+abbrev pub EventMayLack : Event → Answer → Type 0
+EventMayLack (events.Line id text) told = MayLack (command_of text) told
+EventMayLack event told = ⊥
+
+-- An advance may stop at a tick below its target: at one that emits a record, for which there is no memory.
+pub record StopsAt (core : CoreState) (to tick : ℕ) : Type 0 where
+  pub from_now : core.box.stands.tick ≤ tick
+  pub before : tick < to
+  pub emits : is_record (emitted_of (advanced core tick).box.stands) ≡ true
+
+-- what an event may be answered: its answer, or that an advance stopped for want of memory
+abbrev pub IsTold : CoreState → Event → Answer → Type 0
+IsTold core (events.Advance to) (answers.Reached tick whys.Memory) = StopsAt core to tick
+IsTold core event told = told ≡ answer core event
+
+-- the core after an event that was answered so
+abbrev pub after_told : CoreState → Event → Answer → CoreState
+after_told core (events.Advance to) (answers.Reached tick whys.Memory) = advanced core tick
+after_told core event told = after core event

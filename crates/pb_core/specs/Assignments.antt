@@ -1,5 +1,5 @@
 -- What an assignment gives, and why it is refused.
-use Rattle.std.specs.Prelude.{ℕ, Bool, false, List, Option, Some, None, Result, Err}
+use Rattle.std.specs.Prelude.{ℕ, Bool, true, false, List, Option, Some, None, Result, Ok, Err}
 use Rattle.pb_words.specs.declared.Refusal.{Refusal}
 use Rattle.pb_words.specs.declared.Refusal.TheVariants as refusals
 use Rattle.pb_words.specs.Refusing.{result_then, result_map}
@@ -9,6 +9,12 @@ use Rattle.pb_model.specs.Tick.{Box}
 use Rattle.pb_model.specs.Settings.{changed_box}
 use Rattle.pb_config.specs.Settings.{Settings}
 use Rattle.pb_config.specs.Assigning.{raw_given, is_assignable, assigned, change_of}
+use Rattle.pb_buses.specs.declared.Condition.TheVariants as conditions
+use Rattle.pb_model.specs.declared.Change.TheVariants as changes
+use Rattle.pb_pcap.specs.declared.Field.{Field}
+use Rattle.pb_acquire.specs.Acquisitions.{AllAcquisitions, armed, ended, room_of}
+use Rattle.pb_config.specs.Capturing.{layout_of, without_captures}
+use Rattle.pb_core.specs.Captures.{CaptureDeed, clears, arms, disarms, without_value, arming, disarming}
 use Rattle.pb_core.specs.Core.{CoreState}
 use Rattle.pb_core.specs.declared.targets.Named.{Named}
 use Rattle.pb_core.specs.declared.targets.Named.TheVariants as names
@@ -34,23 +40,68 @@ with_given core new = record {
   rows = core.rows;
   settings = assigned core.settings new.slot new.text new.raw;
   box = changed_by (change_of new.slot new.raw) core.box;
+  acquisitions = core.acquisitions;
 }
 
 -- what an assignment to a slot gives
 abbrev pub slot_given : Settings → List ℕ → Slot → Result Given Refusal
 slot_given settings value slot = result_map (given slot value) (raw_given settings slot value)
 
--- an assignment to what is named: only a slot takes a value
-abbrev pub named_given : Settings → List ℕ → Named → Result Given Refusal
-named_given settings value (names.Value slot) = slot_given settings value slot
-named_given settings value _ = Err refusals.NotWriteable
+-- what an assignment does: it gives a slot a value, or it is a command of capture
+pub data Deed : Type 0 where
+  gives : Given → Deed
+  captures : CaptureDeed → Deed
 
--- a value can be assigned to what is named
+-- an assignment to what is named: only a slot takes a value
+abbrev pub named_given : Settings → AllAcquisitions → List ℕ → Named → Result Deed Refusal
+named_given settings all value (names.Value slot) = result_map gives (slot_given settings value slot)
+named_given settings all value names.Captures = result_map captures (without_value value (Ok clears))
+named_given settings all value names.Arming = result_map captures (without_value value (arming all (layout_of settings)))
+named_given settings all value names.Disarming = result_map captures (without_value value (disarming all))
+named_given settings all value _ = Err refusals.NotWriteable
+
+-- a value can be assigned to what is named, be it an empty one
 abbrev pub takes_value : Named → Bool
 takes_value (names.Value slot) = is_assignable slot
+takes_value names.Captures = true
+takes_value names.Arming = true
+takes_value names.Disarming = true
 takes_value _ = false
 
--- What an assignment gives, or the first refusal that fits: that the target names nothing; then that it
--- takes no value; then of the value.
-abbrev pub assignment : Settings → List ℕ → List ℕ → Result Given Refusal
-assignment settings target value = result_then (named_by target) (named_given settings value)
+-- What an assignment does, or the first refusal that fits: that the target names nothing; then that it
+-- takes no value; then of the value; then of the command of capture.
+abbrev pub assignment : Settings → AllAcquisitions → List ℕ → List ℕ → Result Deed Refusal
+assignment settings all target value = result_then (named_by target) (named_given settings all value)
+
+-- The core after a deed.
+
+-- every CAPTURE becomes No
+abbrev pub with_clearing : CoreState → CoreState
+with_clearing core =
+    record { rows = core.rows; settings = without_captures core.settings; box = core.box; acquisitions = core.acquisitions }
+
+-- PCAP and an acquisition are armed, with room for as many records
+abbrev pub with_arming : CoreState → List Field → CoreState
+with_arming core layout =
+    record {
+      rows = core.rows;
+      settings = core.settings;
+      box = changed_box core.box (changes.Arm (room_of layout));
+      acquisitions = armed layout core.acquisitions;
+    }
+
+-- PCAP is disarmed, and the acquisition is over
+abbrev pub with_disarming : CoreState → CoreState
+with_disarming core =
+    record {
+      rows = core.rows;
+      settings = core.settings;
+      box = changed_box core.box changes.Disarm;
+      acquisitions = ended conditions.Disarmed core.acquisitions;
+    }
+
+abbrev pub with_deed : CoreState → Deed → CoreState
+with_deed core (gives new) = with_given core new
+with_deed core (captures clears) = with_clearing core
+with_deed core (captures (arms layout)) = with_arming core layout
+with_deed core (captures disarms) = with_disarming core

@@ -2,11 +2,13 @@ pub mod Tick
 pub mod Core
 pub mod Kept
 pub mod Naming
+pub mod Captures
 pub mod Queries
 pub mod Assignments
 pub mod Writing
 pub mod Helpers
 pub mod Answer
+pub mod Stopping
 pub mod Current
 pub mod Examples
 pub mod Holding

@@ -23,13 +23,24 @@ abbrev pub labels_named : List ℕ → Result Named Refusal
 labels_named target =
     if has_point target then result_map names.Labels (found_of target) else Err refusals.NoSuchField
 
+-- `*PCAP.ARM` and the others of capture, by what stands after the point
+abbrev pub capture_named : List ℕ → Result Named Refusal
+capture_named name =
+    if is_same name (codes "ARM") then Ok names.Arming
+    else (if is_same name (codes "DISARM") then Ok names.Disarming
+    else (if is_same name (codes "STATUS") then Ok names.Status
+    else (if is_same name (codes "CAPTURED") then Ok names.Captured
+    else (if is_same name (codes "COMPLETION") then Ok names.Completion else Err refusals.NoSuchField))))
+
 -- the star targets, by what stands after the star
 abbrev pub star_named : List ℕ → Result Named Refusal
 star_named name =
     if is_same name (codes "IDN") then Ok names.Identity
     else (if is_same name (codes "BLOCKS") then Ok names.Blocks
     else (if is_same name (codes "POSITIONS") then Ok names.Positions
-    else option_map_or labels_named (after_front (codes "ENUMS.") name) (Err refusals.NoSuchField)))
+    else (if is_same name (codes "CAPTURE") then Ok names.Captures
+    else option_map_or capture_named (after_front (codes "PCAP.") name)
+    (option_map_or labels_named (after_front (codes "ENUMS.") name) (Err refusals.NoSuchField)))))
 
 -- `LUT1.INPA.*` names all attributes of a field, and `LUT1.*` all fields of a block
 abbrev pub listing_named : List ℕ → Result Named Refusal

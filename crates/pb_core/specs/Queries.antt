@@ -25,6 +25,8 @@ use Rattle.pb_model.specs.Settings.{read_of}
 use Rattle.pb_model.specs.Tables.{table_of}
 use Rattle.pb_core.specs.declared.targets.Named.{Named}
 use Rattle.pb_core.specs.declared.targets.Named.TheVariants as names
+use Rattle.pb_acquire.specs.Acquisitions.{AllAcquisitions}
+use Rattle.pb_core.specs.Captures.{captures_reply, status_reply, captured_reply, completion_reply}
 use Rattle.pb_core.specs.Naming.{named_by}
 
 -- Values.
@@ -76,16 +78,22 @@ abbrev pub identity : List ℕ
 identity = codes "panda_sim 1.0"
 
 -- what the query of what is named is answered
-abbrev pub named_reply : Settings → Standing → Named → Result (List ℕ) Refusal
-named_reply settings box names.Identity = Ok (value_reply identity)
-named_reply settings box names.Blocks = Ok (list_reply block_lines)
-named_reply settings box names.Positions = Ok (list_reply position_lines)
-named_reply settings box (names.Labels slot) = labels_or_refused slot
-named_reply settings box (names.Fields block) = Ok (list_reply (field_lines block))
-named_reply settings box (names.Attributes slot) = Ok (list_reply (attribute_lines slot))
-named_reply settings box (names.Value slot) = slot_reply settings box slot
+abbrev pub named_reply : Settings → Standing → AllAcquisitions → Named → Result (List ℕ) Refusal
+named_reply settings box all names.Identity = Ok (value_reply identity)
+named_reply settings box all names.Blocks = Ok (list_reply block_lines)
+named_reply settings box all names.Positions = Ok (list_reply position_lines)
+named_reply settings box all names.Captures = Ok (captures_reply settings)
+named_reply settings box all names.Arming = Err refusals.NotReadable
+named_reply settings box all names.Disarming = Err refusals.NotReadable
+named_reply settings box all names.Status = Ok (status_reply all)
+named_reply settings box all names.Captured = Ok (captured_reply all)
+named_reply settings box all names.Completion = Ok (completion_reply all)
+named_reply settings box all (names.Labels slot) = labels_or_refused slot
+named_reply settings box all (names.Fields block) = Ok (list_reply (field_lines block))
+named_reply settings box all (names.Attributes slot) = Ok (list_reply (attribute_lines slot))
+named_reply settings box all (names.Value slot) = slot_reply settings box slot
 
 -- The reply to the query of a target, or the first refusal that fits: that it names nothing; then that it
 -- can't be read.
-abbrev pub query_reply : Settings → Standing → List ℕ → Result (List ℕ) Refusal
-query_reply settings box target = result_then (named_by target) (named_reply settings box)
+abbrev pub query_reply : Settings → Standing → AllAcquisitions → List ℕ → Result (List ℕ) Refusal
+query_reply settings box all target = result_then (named_by target) (named_reply settings box all)

@@ -1,10 +1,13 @@
 -- One tick of the box with its stimulus.
-use Rattle.std.specs.Prelude.{ℕ, zero, suc, ℤ, pos, Bool, not, List, ◌++◌, map, drop}
+use Rattle.std.specs.Prelude.{ℕ, ℤ, pos, Bool, not, List, ◌++◌, map, drop}
 use Rattle.std.specs.List.{range_with_len}
 use Rattle.std.specs.Ordering.{int_eq}
 use Rattle.pb_names.specs.declared.ttlin.TheConstants as ttlin
 use Rattle.pb_names.specs.declared.inenc.TheConstants as inenc
 use Rattle.pb_buses.specs.declared.Bus.{Bus}
+use Rattle.pb_buses.specs.declared.Emit.{Emit}
+use Rattle.pb_buses.specs.declared.Emit.TheVariants as emits
+use Rattle.pb_acquire.specs.Acquisitions.{AllAcquisitions, recorded, ended}
 use Rattle.pb_stim.specs.declared.Row.{Row}
 use Rattle.pb_stim.specs.Stimulus.{value_at}
 use Rattle.pb_model.specs.Tick.{Box, with_bus}
@@ -38,7 +41,8 @@ stimulated rows box = with_bus box (driven rows box.stands.tick box.stands.bus)
 abbrev pub tick : List Row → Box → Box
 tick rows box = stimulated rows (model.tick box)
 
--- so many ticks
-abbrev pub ticks : ℕ → List Row → Box → Box
-ticks zero rows box = box
-ticks (suc n) rows box = ticks n rows (tick rows box)
+-- what PCAP hands out goes to the acquisition that is armed or running: a record more, or that it is over
+abbrev pub taken : Emit → AllAcquisitions → AllAcquisitions
+taken emits.Nothing all = all
+taken (emits.Record row) all = recorded row all
+taken (emits.Completed condition) all = ended condition all

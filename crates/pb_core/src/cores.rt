@@ -1,22 +1,31 @@
-ghost use Rattle.std.specs.Prelude.{◌≡◌, ◌+◌, ◌-◌, ◌*◌, ◌<◌, ◌≤◌, ◌^◌, IfOk, OnOk, IfErr, OnErr};
+ghost use Rattle.std.specs.Prelude.{◌≡◌, ◌+◌, ◌-◌, ◌*◌, ◌<◌, ◌≤◌, ◌^◌, true, false, Ok, IfOk, OnOk, IfErr, OnErr, IsSome, is_none};
+ghost use Rattle.pb_buses.specs.Rules.{is_record};
+ghost use Rattle.pb_acquire.specs.Acquisitions.{AllAcquisitions, recorded};
+ghost use Rattle.pb_acquire.specs.Kept as acquire;
+ghost use Rattle.pb_acquire.specs.Kept.{spare_of};
+ghost use Rattle.pb_model.specs.Arming.{idle_after, is_completed};
+ghost use Rattle.pb_model.specs.Tick.{emitted_of};
+ghost use Rattle.pb_core.specs.Tick.{taken};
 ghost use Rattle.pb_grammar.specs.Grammar.{command_of};
 ghost use Rattle.pb_buses.specs.Buses.{selected, position};
 ghost use Rattle.pb_fields.specs.Slots.{role_at, kind_of};
 ghost use Rattle.pb_fields.specs.Values.{IsRaw};
 
 use crate::assignments::assign;
-use crate::events::{Answer, Event};
+use crate::events::{Answer, Event, Why};
 use crate::placing::{put_rows, put_values};
 use crate::queries::query;
 use crate::writes::write;
+use pb_acquire::{Acquisitions, ArmFault};
+use pb_buses::{Emit, Record};
 use pb_config::Config;
 use pb_fields::{Catalog, Role, Slot};
 use pb_grammar::{Command, parse};
-use pb_model::{BoxState, tick};
+use pb_model::{BoxState, Change, tick};
 use pb_replies::value_reply;
 use pb_stim::Stimulus;
 use pb_tables::Rows;
-use pb_words::{OutOfMemory, Steps};
+use pb_words::{OutOfMemory, Refusal, Steps};
 use std::alloc::Global;
 use std::marker::Model;
 use std::sync::ledger::Ledger;
@@ -34,17 +43,20 @@ pub struct Core {
     /// The values of the ten targets of the stimulus at the box's tick.
     values: [i32; 10],
     state: BoxState,
+    acquisitions: Acquisitions,
 }
 
 impl Model for Core {
     ghost use Rattle.pb_core.specs.Kept.{KeptCore};
+    ghost use Rattle.std.specs.Prelude.{◌≡◌, is_none};
     ghost use Rattle.pb_core.specs.Current.{IsCurrent};
+    ghost use Rattle.pb_model.specs.Arming.{is_capture_idle};
 
     ghost Value = { KeptCore };
 
-    ghost view = { λ c. record { rows = c.stimulus; settings = c.config; box = c.state } };
+    ghost view = { λ c. record { rows = c.stimulus; settings = c.config; box = c.state; acquisitions = c.acquisitions } };
 
-    ghost invariant = { λ c. IsCurrent c.stimulus c.place c.values c.state.tick };
+    ghost invariant = { λ c. IsCurrent c.stimulus c.place c.values c.state.tick × (is_capture_idle c.state.blocks ≡ is_none c.acquisitions.running) };
 }
 
 impl Core {
@@ -53,13 +65,18 @@ impl Core {
     ghost use Rattle.pb_names.specs.declared.seq.TheConstants as seq;
     ghost use Rattle.pb_model.specs.Settings.{read_of};
     ghost use Rattle.pb_model.specs.Tables.{table_of};
-    ghost use Rattle.pb_core.specs.Tick as definition;
-    ghost use Rattle.pb_core.specs.Core.{CoreState, opening, with_box};
+    ghost use Rattle.pb_core.specs.Core.{CoreState, opening, ticked};
     ghost use Rattle.pb_core.specs.Kept.{Agrees};
     ghost use Rattle.pb_core.specs.Assignments.{slot_given};
-    ghost use Rattle.pb_core.specs.Answer.{advanced, CanHappen, answer, after, ticks_of, said_answer, done, IsReply};
+    ghost use Rattle.pb_core.specs.Answer.{CanHappen, answer, IsTold, after_told, EventMayLack, MayLack, said_answer, said_after, done};
+    ghost use Rattle.pb_core.specs.Captures.{clears, without_value, arming, disarming};
+    ghost use Rattle.pb_core.specs.Assignments.{captures};
+    ghost use Rattle.pb_core.specs.declared.events.Answer.TheVariants as answers;
+    ghost use Rattle.pb_core.specs.Stopping.{Stopped};
+    ghost use Rattle.pb_config.specs.Capturing.{layout_of};
+    ghost use Rattle.pb_words.specs.Refusing.{result_map};
     ghost use Rattle.pb_core.specs.Writing.{table_written};
-    ghost use Rattle.pb_core.specs.Helpers.{kept_left_by, kept_written_by, kept_said_after};
+    ghost use Rattle.pb_core.specs.Helpers.{kept_given_by, kept_written_by, IsLeftBy};
 
     /// The core as it opens at tick 0. Where there is no memory for its catalogue, its settings or its box,
     /// the stimulus is handed back.
@@ -76,6 +93,9 @@ impl Core {
         let Ok(mut state) = BoxState::new(alloc) else {
             return Err(stimulus);
         };
+        let Ok(acquisitions) = Acquisitions::new(alloc) else {
+            return Err(stimulus);
+        };
         let mut values = [0; 10];
         let place = put_rows(&stimulus, 0, &mut values, 0);
         put_values(&mut state, &values);
@@ -87,6 +107,7 @@ impl Core {
             place,
             values,
             state,
+            acquisitions,
         })
     }
 
@@ -106,32 +127,38 @@ impl Core {
         steps: &mut Steps<L>,
     ) -> Result<Answer, OutOfMemory>
         requires { CanHappen event.now }
-        ensures ok { (core : CoreState) → Agrees self.old core → IfOk result (λ told. told ≡ answer core event.now) }
-        ensures core { (core : CoreState) → Agrees self.old core → OnOk result (Agrees self.new (after core event.now)) }
+        ensures ok { (core : CoreState) → Agrees self.old core → IfOk result (IsTold core event.now) }
+        ensures core { (core : CoreState) → Agrees self.old core → IfOk result (λ told. Agrees self.new (after_told core event.now told)) }
         ensures err { OnErr result (self.new ≡ self.old) }
-        ensures memory { (core : CoreState) → Agrees self.old core → OnErr result (IsReply (answer core event.now)) }
-        ensures counts { steps.new ≡ steps.old + 35 * ticks_of self.old.box.tick event.now }
+        ensures memory { (core : CoreState) → Agrees self.old core → OnErr result (EventMayLack event.now (answer core event.now)) }
+        ensures counts { steps.new ≡ steps.old + 35 * (self.new.box.tick - self.old.box.tick) }
     {
         match event {
             Event::Line { id: _, text } => self.line(text.bytes()),
             Event::Bad { id: _, refusal } => Ok(Answer::Error(*refusal)),
             Event::Advance { to } => {
-                self.advance(*to, steps);
-                Ok(Answer::Reached { tick: self.now() })
+                let why = self.advance(*to, steps);
+                Ok(Answer::Reached {
+                    tick: self.now(),
+                    why,
+                })
             }
         }
     }
 
     /// The answer to a whole command.
     fn line(&mut self, bytes: &[u8]) -> Result<Answer, OutOfMemory>
-        ensures ok { IfOk result (λ told. told ≡ said_answer self.old.settings (stands_of self.old.box) (command_of bytes.now)) }
-        ensures core { OnOk result (self.new ≡ kept_said_after self.old (command_of bytes.now)) }
+        ensures ok { (core : CoreState) → Agrees self.old core →
+            IfOk result (λ told. told ≡ said_answer core.settings core.box.stands core.acquisitions (command_of bytes.now)) }
+        ensures core { (core : CoreState) → Agrees self.old core → OnOk result (Agrees self.new (said_after core (command_of bytes.now))) }
         ensures err { OnErr result (self.new ≡ self.old) }
-        ensures memory { OnErr result (IsReply (said_answer self.old.settings (stands_of self.old.box) (command_of bytes.now))) }
+        ensures memory { (core : CoreState) → Agrees self.old core →
+            OnErr result (MayLack (command_of bytes.now) (said_answer core.settings core.box.stands core.acquisitions (command_of bytes.now))) }
+        ensures tick { self.new.box.tick ≡ self.old.box.tick }
     {
         match parse(bytes) {
             Command::Query(target) => query(self, target),
-            Command::Assign(target, value) => Ok(assign(self, target, value)),
+            Command::Assign(target, value) => assign(self, target, value),
             Command::Table {
                 target,
                 append,
@@ -143,26 +170,44 @@ impl Core {
         }
     }
 
-    /// The ticks up to this one.
-    fn advance<L: Ledger>(&mut self, to: u64, steps: &mut Steps<L>)
+    /// The ticks up to this one, or up to one that emits a record for which there is no memory.
+    fn advance<L: Ledger>(&mut self, to: u64, steps: &mut Steps<L>) -> Why
         requires { to < 2 ^ 62 }
-        ensures agrees { (core : CoreState) → Agrees self.old core → Agrees self.new (advanced core to) }
-        ensures counts { steps.new ≡ steps.old + 35 * (to - self.old.box.tick) }
+        ensures agrees { (core : CoreState) → Agrees self.old core → Stopped core self.new to result }
+        ensures counts { steps.new ≡ steps.old + 35 * (self.new.box.tick - self.old.box.tick) }
     {
         for _tick in self.now()..to {
+            if !self.has_room() {
+                return Why::Memory;
+            }
             self.step(steps);
         }
+        Why::Target
     }
 
-    /// One tick.
+    /// Whether there is room in memory for the record that this tick emits, if it emits one.
+    fn has_room(&mut self) -> bool
+        ensures agrees { (core : CoreState) → Agrees self.old core → Agrees self.new core }
+        ensures same { self.new.box ≡ self.old.box }
+        ensures lacks { result ≡ false → is_record (emitted_of (stands_of self.old.box)) ≡ true }
+        ensures room { result ≡ true → is_record (emitted_of (stands_of self.old.box)) ≡ true → 1 ≤ spare_of self.new.acquisitions }
+    {
+        if !self.state.emits() {
+            return true;
+        }
+        make_room(&mut self.acquisitions)
+    }
+
+    /// One tick. There is room in memory for the record that it emits, if it emits one.
     fn step<L: Ledger>(&mut self, steps: &mut Steps<L>)
-        requires { self.old.box.tick + 1 < 2 ^ 62 }
-        ensures agrees { (core : CoreState) → Agrees self.old core →
-            Agrees self.new (with_box core (definition.tick core.rows core.box)) }
+        requires small { self.old.box.tick + 1 < 2 ^ 62 }
+        requires room { is_record (emitted_of (stands_of self.old.box)) ≡ true → 1 ≤ spare_of self.old.acquisitions }
+        ensures agrees { (core : CoreState) → Agrees self.old core → Agrees self.new (ticked core) }
         ensures tick { self.new.box.tick ≡ self.old.box.tick + 1 }
         ensures counts { steps.new ≡ steps.old + 35 }
     {
-        tick(&mut self.state, steps);
+        let emit = tick(&mut self.state, steps);
+        take(&mut self.acquisitions, emit);
         self.place = put_rows(
             &self.stimulus,
             self.place,
@@ -176,7 +221,8 @@ impl Core {
     pub(crate) fn set(&mut self, slot: Slot, value: &[u8]) -> Answer
         requires { IsSlot slot }
         ensures answer { result ≡ done (slot_given self.old.settings value.now slot) }
-        ensures core { self.new ≡ kept_left_by self.old (slot_given self.old.settings value.now slot) }
+        ensures core { self.new ≡ kept_given_by self.old (slot_given self.old.settings value.now slot) }
+        ensures tick { self.new.box.tick ≡ self.old.box.tick }
     {
         match self.config.assign(slot, value) {
             Ok(Some(change)) => {
@@ -186,6 +232,69 @@ impl Core {
             Ok(None) => Answer::Ok,
             Err(refusal) => Answer::Error(refusal),
         }
+    }
+
+    /// Every CAPTURE becomes No. The command takes no value.
+    pub(crate) fn clear_captures(&mut self, value: &[u8]) -> Answer
+        ensures answer { result ≡ done (without_value value.now (Ok clears)) }
+        ensures core { (all : AllAcquisitions) → acquire.Agrees self.old.acquisitions all →
+            IsLeftBy self.old self.new all (result_map captures (without_value value.now (Ok clears))) }
+        ensures tick { self.new.box.tick ≡ self.old.box.tick }
+    {
+        if !value.is_empty() {
+            return Answer::Error(Refusal::MalformedValue);
+        }
+        self.config.clear_captures();
+        Answer::Ok
+    }
+
+    /// Arms an acquisition with the layout by the settings. The command takes no value. It is refused where one
+    /// is armed or running, and where nothing is captured. Want of memory changes nothing.
+    pub(crate) fn arm(&mut self, value: &[u8]) -> Result<Answer, OutOfMemory>
+        ensures answer { (all : AllAcquisitions) → acquire.Agrees self.old.acquisitions all →
+            IfOk result (λ told. told ≡ done (without_value value.now (arming all (layout_of self.old.settings)))) }
+        ensures core { (all : AllAcquisitions) → acquire.Agrees self.old.acquisitions all →
+            OnOk result (IsLeftBy self.old self.new all (result_map captures (without_value value.now (arming all (layout_of self.old.settings))))) }
+        ensures err { OnErr result (self.new ≡ self.old) }
+        ensures memory { (all : AllAcquisitions) → acquire.Agrees self.old.acquisitions all →
+            OnErr result (done (without_value value.now (arming all (layout_of self.old.settings))) ≡ answers.Ok) }
+        ensures tick { self.new.box.tick ≡ self.old.box.tick }
+    {
+        if !value.is_empty() {
+            return Ok(Answer::Error(Refusal::MalformedValue));
+        }
+        match self.acquisitions.arm(self.config.layout()) {
+            Ok(room) => {
+                self.state.change(Change::Arm { room });
+                Ok(Answer::Ok)
+            }
+            Err(ArmFault::Refused(refusal)) => Ok(Answer::Error(refusal)),
+            Err(ArmFault::OutOfMemory) => Err(OutOfMemory),
+        }
+    }
+
+    /// Ends the acquisition that is armed or running. The command takes no value. It is refused where there is none.
+    pub(crate) fn disarm(&mut self, value: &[u8]) -> Answer
+        ensures answer { (all : AllAcquisitions) → acquire.Agrees self.old.acquisitions all →
+            result ≡ done (without_value value.now (disarming all)) }
+        ensures core { (all : AllAcquisitions) → acquire.Agrees self.old.acquisitions all →
+            IsLeftBy self.old self.new all (result_map captures (without_value value.now (disarming all))) }
+        ensures tick { self.new.box.tick ≡ self.old.box.tick }
+    {
+        if !value.is_empty() {
+            return Answer::Error(Refusal::MalformedValue);
+        }
+        if let Err(refusal) = self.acquisitions.disarm() {
+            return Answer::Error(refusal);
+        }
+        self.state.change(Change::Disarm);
+        Answer::Ok
+    }
+
+    pub(crate) fn acquisitions(&self) -> &Acquisitions
+        ensures { result.now ≡ self.now.acquisitions }
+    {
+        &self.acquisitions
     }
 
     /// The table of the sequencer of this number, 1 or 2, takes the words of a body. A body that is refused
@@ -254,5 +363,48 @@ impl Core {
 
     pub(crate) fn alloc(&self) -> Global {
         self.alloc
+    }
+}
+
+/// Makes room in memory for one more record of the acquisition that is armed or running, and says whether there is.
+fn make_room(acquisitions: &mut Acquisitions) -> bool
+    ensures same { (all : AllAcquisitions) → acquire.Agrees acquisitions.old all → acquire.Agrees acquisitions.new all }
+    ensures idle { is_none acquisitions.new.running ≡ is_none acquisitions.old.running }
+    ensures room { result ≡ true → 1 ≤ spare_of acquisitions.new }
+{
+    match acquisitions.running() {
+        Some(records) => match records.reserve() {
+            Ok(()) => true,
+            Err(_) => false,
+        },
+        None => false,
+    }
+}
+
+/// What PCAP hands out goes to the acquisition that is armed or running. There is room in memory for a record.
+fn take(acquisitions: &mut Acquisitions, emit: Emit)
+    requires room { is_record emit ≡ true → 1 ≤ spare_of acquisitions.old }
+    requires running { is_completed emit ≡ true → IsSome acquisitions.old.running }
+    ensures agrees { (all : AllAcquisitions) → acquire.Agrees acquisitions.old all → acquire.Agrees acquisitions.new (taken emit all) }
+    ensures idle { is_none acquisitions.new.running ≡ idle_after emit (is_none acquisitions.old.running) }
+{
+    match emit {
+        Emit::Nothing => {}
+        Emit::Record(row) => record(acquisitions, &row),
+        Emit::Completed(condition) => acquisitions.complete(condition),
+    }
+}
+
+/// Adds a record to the acquisition that is running. There is room for it in memory.
+fn record(acquisitions: &mut Acquisitions, row: &Record)
+    requires { 1 ≤ spare_of acquisitions.old }
+    ensures agrees { (all : AllAcquisitions) → acquire.Agrees acquisitions.old all → acquire.Agrees acquisitions.new (recorded row.now all) }
+    ensures idle { is_none acquisitions.new.running ≡ is_none acquisitions.old.running }
+{
+    match acquisitions.running() {
+        Some(records) => {
+            let _kept = records.push(row);
+        }
+        None => {}
     }
 }

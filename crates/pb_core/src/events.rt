@@ -13,6 +13,15 @@ pub enum Event {
     Advance { to: u64 },
 }
 
+/// Why an advance ended where it did.
+#[derive(Clone, Copy, Debug, PartialEq, Eq)]
+pub enum Why {
+    /// It was to go there, or the box had been there already.
+    Target,
+    /// That tick emits a record, for which there is no memory.
+    Memory,
+}
+
 /// What the core answers to an event.
 #[derive(Debug, Drop)]
 pub enum Answer {
@@ -22,8 +31,8 @@ pub enum Answer {
     Reply(Text),
     /// The command is refused, and changed nothing.
     Error(Refusal),
-    /// The box stands at this tick.
-    Reached { tick: u64 },
+    /// The box stands at this tick, for this reason.
+    Reached { tick: u64, why: Why },
 }
 
 impl Answer {
@@ -37,7 +46,7 @@ impl Answer {
             Answer::Ok => b"OK\n",
             Answer::Reply(text) => text.bytes(),
             Answer::Error(refusal) => refusal.line(),
-            Answer::Reached { tick: _ } => b"",
+            Answer::Reached { .. } => b"",
         }
     }
 }

@@ -3,6 +3,7 @@ ghost use Rattle.pb_words.specs.declared.Refusal.{Refusal};
 ghost use Rattle.pb_words.specs.declared.Refusal.TheVariants as refusals;
 ghost use Rattle.pb_fields.specs.declared.Slot.{Slot};
 ghost use Rattle.pb_model.specs.Tick.{Standing};
+ghost use Rattle.pb_acquire.specs.Acquisitions.{AllAcquisitions};
 ghost use Rattle.pb_config.specs.Settings.{Settings};
 ghost use Rattle.pb_config.specs.Assigning.{raw_given};
 ghost use Rattle.pb_config.specs.Reached.{IsReached};
@@ -34,31 +35,33 @@ pub fn only_done_lines_change_the_core()
 /// whether that can be asked for or set; and last whether the value fits.
 #[tactic(auto, unfolding(pb_config::specs::Assigning::raw_given))]
 pub fn refusals_come_in_order()
-    ensures target { (settings : Settings) (box : Standing) (target value : List ℕ) (refusal : Refusal)
+    ensures target { (settings : Settings) (box : Standing) (all : AllAcquisitions) (target value : List ℕ) (refusal : Refusal)
         → named_by target ≡ Err refusal
-        → (query_reply settings box target ≡ Err refusal) × (assignment settings target value ≡ Err refusal) }
-    ensures reading { (settings : Settings) (box : Standing) (target : List ℕ) (slot : Slot)
+        → (query_reply settings box all target ≡ Err refusal) × (assignment settings all target value ≡ Err refusal) }
+    ensures reading { (settings : Settings) (box : Standing) (all : AllAcquisitions) (target : List ℕ) (slot : Slot)
         → named_by target ≡ Ok (names.Value slot) → is_readable slot ≡ false
-        → query_reply settings box target ≡ Err refusals.NotReadable }
-    ensures labels { (settings : Settings) (box : Standing) (target : List ℕ) (slot : Slot)
+        → query_reply settings box all target ≡ Err refusals.NotReadable }
+    ensures labels { (settings : Settings) (box : Standing) (all : AllAcquisitions) (target : List ℕ) (slot : Slot)
         → named_by target ≡ Ok (names.Labels slot) → labels_at slot ≡ None
-        → query_reply settings box target ≡ Err refusals.NotReadable }
-    ensures writing { (settings : Settings) (target value : List ℕ) (named : Named)
+        → query_reply settings box all target ≡ Err refusals.NotReadable }
+    ensures writing { (settings : Settings) (all : AllAcquisitions) (target value : List ℕ) (named : Named)
         → named_by target ≡ Ok named → takes_value named ≡ false
-        → assignment settings target value ≡ Err refusals.NotWriteable }
-    ensures value { (settings : Settings) (target value : List ℕ) (slot : Slot) (refusal : Refusal)
+        → assignment settings all target value ≡ Err refusals.NotWriteable }
+    ensures value { (settings : Settings) (all : AllAcquisitions) (target value : List ℕ) (slot : Slot) (refusal : Refusal)
         → named_by target ≡ Ok (names.Value slot) → raw_given settings slot value ≡ Err refusal
-        → assignment settings target value ≡ Err refusal }
+        → assignment settings all target value ≡ Err refusal }
 {}
 
 /// A target that begins with a star and is none of those that are known is no field, whether it is asked
 /// or set.
 pub fn unknown_star_targets_are_no_fields()
-    ensures { (settings : Settings) (box : Standing) (name value : List ℕ)
+    ensures { (settings : Settings) (box : Standing) (all : AllAcquisitions) (name value : List ℕ)
         → name ≢ codes "IDN" → name ≢ codes "BLOCKS" → name ≢ codes "POSITIONS"
+        → name ≢ codes "CAPTURE" → name ≢ codes "PCAP.ARM" → name ≢ codes "PCAP.DISARM"
+        → name ≢ codes "PCAP.STATUS" → name ≢ codes "PCAP.CAPTURED" → name ≢ codes "PCAP.COMPLETION"
         → ((target : List ℕ) → name ≢ codes "ENUMS." ++ target)
-        → (query_reply settings box (codes "*" ++ name) ≡ Err refusals.NoSuchField)
-        × (assignment settings (codes "*" ++ name) value ≡ Err refusals.NoSuchField) }
+        → (query_reply settings box all (codes "*" ++ name) ≡ Err refusals.NoSuchField)
+        × (assignment settings all (codes "*" ++ name) value ≡ Err refusals.NoSuchField) }
 {}
 
 /// In every core that events reach the settings are such as assignments reach, so the laws of pb_config

@@ -5,6 +5,7 @@
 #![tactic(auto)]
 
 mod assignments;
+mod captures;
 mod cores;
 mod events;
 mod examples;
@@ -17,7 +18,7 @@ mod values;
 mod writes;
 
 pub use cores::Core;
-pub use events::{Answer, Event};
+pub use events::{Answer, Event, Why};
 pub use examples::{
     input_is_seen_one_tick_later, lut_of_itself_toggles, refused_lines_change_nothing,
 };

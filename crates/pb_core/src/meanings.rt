@@ -2,7 +2,7 @@ ghost use Rattle.std.specs.Prelude.{◌≡◌, codes, position, IfOk};
 ghost use Rattle.std.specs.Option.{option_copied};
 ghost use Rattle.pb_fields.specs.Finding.{is_point};
 ghost use Rattle.pb_grammar.specs.Grammar.{after_front, before_end};
-ghost use Rattle.pb_core.specs.Naming.{has_point, labels_named, star_named, listing_named, block_named, named_by};
+ghost use Rattle.pb_core.specs.Naming.{has_point, labels_named, capture_named, star_named, listing_named, block_named, named_by};
 ghost use Rattle.pb_core.specs.Helpers.{IsThere};
 
 use crate::targets::Named;
@@ -32,12 +32,42 @@ fn star_named(catalog: &Catalog, name: &[u8]) -> Result<Named, Refusal>
         Ok(Named::Blocks)
     } else if name == b"POSITIONS".as_slice() {
         Ok(Named::Positions)
+    } else if name == b"CAPTURE".as_slice() {
+        Ok(Named::Captures)
+    } else if let Some(what) = capturing(name) {
+        capture_named(what)
+    } else if let Some(target) = labelled(name) {
+        labels_named(catalog, target)
     } else {
-        match labelled(name) {
-            Some(target) => labels_named(catalog, target),
-            None => Err(Refusal::NoSuchField),
-        }
+        Err(Refusal::NoSuchField)
     }
+}
+
+/// What a target of capture names, by what stands after `*PCAP.`.
+fn capture_named(name: &[u8]) -> Result<Named, Refusal>
+    ensures named { result ≡ capture_named name.now }
+    ensures there { IfOk result IsThere }
+{
+    if name == b"ARM".as_slice() {
+        Ok(Named::Arming)
+    } else if name == b"DISARM".as_slice() {
+        Ok(Named::Disarming)
+    } else if name == b"STATUS".as_slice() {
+        Ok(Named::Status)
+    } else if name == b"CAPTURED".as_slice() {
+        Ok(Named::Captured)
+    } else if name == b"COMPLETION".as_slice() {
+        Ok(Named::Completion)
+    } else {
+        Err(Refusal::NoSuchField)
+    }
+}
+
+/// What of capture the name of a star target asks for.
+fn capturing(name: &[u8]) -> Option<&[u8]>
+    ensures { option_copied result ≡ after_front (codes "PCAP.") name.now }
+{
+    name.strip_prefix(b"PCAP.".as_slice())
 }
 
 /// The field or the attribute whose labels are named.

@@ -9,6 +9,18 @@ pub(crate) enum Named {
     Blocks,
     /// `*POSITIONS`: the entries of the position bus.
     Positions,
+    /// `*CAPTURE`: what is captured.
+    Captures,
+    /// `*PCAP.ARM`.
+    Arming,
+    /// `*PCAP.DISARM`.
+    Disarming,
+    /// `*PCAP.STATUS`: whether one is armed or running.
+    Status,
+    /// `*PCAP.CAPTURED`: how many records the latest acquisition has.
+    Captured,
+    /// `*PCAP.COMPLETION`: how the latest acquisition ended.
+    Completion,
     /// `*ENUMS.` and a field or an attribute: its labels.
     Labels(Slot),
     /// All fields of the block at this place.

@@ -1,5 +1,5 @@
 ghost use Rattle.std.specs.Prelude.{◌≡◌, ◌<◌, ◌≤◌, ◌+◌, ◌-◌, ◌%◌, ◌^◌, ℕ, min, true};
-ghost use Rattle.pb_buses.specs.Rules.{IsHorizon, AreCalm, after};
+ghost use Rattle.pb_buses.specs.Rules.{IsHorizon};
 ghost use Rattle.pb_buses.specs.declared.Inputs.{Inputs};
 
 use pb_buses::{Emit, Inputs, Machine, Outputs};
@@ -60,43 +60,21 @@ impl Clock {
         }
     }
 
-    /// How many steps under these inputs are calm before the first that isn't; none where all are calm.
-    pub fn horizon<L: Ledger>(
-        &self,
-        inputs: &Inputs,
-        tick: u64,
-        steps: &mut Steps<L>,
-    ) -> Option<u128>
+    /// One tick of the block, which emits nothing.
+    pub fn advance<L: Ledger>(&mut self, inputs: &Inputs, tick: u64, steps: &mut Steps<L>)
         requires { tick < 2 ^ 62 }
-        ensures horizon { IsHorizon definition.rules inputs.now tick self.now result }
+        ensures next { self.new ≡ definition.rules.next self.old inputs.now tick }
         ensures counts { steps.new ≡ steps.old + 1 }
     {
         steps.tick();
-        if inputs.bits[clock::ENABLE as usize] {
-            self.registers.calm_ticks(&self.settings)
-        } else if self.registers.out {
-            Some(0)
+        self.registers = if inputs.bits[clock::ENABLE as usize] {
+            self.registers.running(&self.settings)
         } else {
-            None
-        }
-    }
-
-    /// So many steps at once, all of them calm.
-    pub fn coast<L: Ledger>(&mut self, inputs: &Inputs, tick: u64, ticks: u64, steps: &mut Steps<L>)
-        requires calm { AreCalm definition.rules inputs.now tick ticks self.old }
-        requires end { tick + ticks ≤ 2 ^ 62 }
-        ensures left { self.new ≡ after definition.rules inputs.now tick ticks self.old }
-        ensures counts { steps.new ≡ steps.old + 1 }
-    {
-        steps.tick();
-        if ticks == 0 {
-            return;
-        }
-        if inputs.bits[clock::ENABLE as usize] {
-            self.registers.count = self.settings.count_after(self.registers.count, ticks);
-        } else {
-            self.registers.count = 0;
-        }
+            ClockRegisters {
+                count: 0,
+                out: false,
+            }
+        };
     }
 }
 
@@ -179,16 +157,31 @@ impl Machine for Clock {
     ghost with_field = { definition.with_field };
 
     fn step<L: Ledger>(&mut self, inputs: &Inputs, tick: u64, steps: &mut Steps<L>) -> Emit {
-        steps.tick();
-        self.registers = if inputs.bits[clock::ENABLE as usize] {
-            self.registers.running(&self.settings)
-        } else {
-            ClockRegisters {
-                count: 0,
-                out: false,
-            }
-        };
+        self.advance(inputs, tick, steps);
         Emit::Nothing
+    }
+
+    fn horizon<L: Ledger>(&self, inputs: &Inputs, tick: u64, steps: &mut Steps<L>) -> Option<u128> {
+        steps.tick();
+        if inputs.bits[clock::ENABLE as usize] {
+            self.registers.calm_ticks(&self.settings)
+        } else if self.registers.out {
+            Some(0)
+        } else {
+            None
+        }
+    }
+
+    fn coast<L: Ledger>(&mut self, inputs: &Inputs, tick: u64, ticks: u64, steps: &mut Steps<L>) {
+        steps.tick();
+        if ticks == 0 {
+            return;
+        }
+        if inputs.bits[clock::ENABLE as usize] {
+            self.registers.count = self.settings.count_after(self.registers.count, ticks);
+        } else {
+            self.registers.count = 0;
+        }
     }
 
     fn outputs(&self) -> Outputs {

@@ -8,6 +8,7 @@ use Rattle.pb_model.specs.declared.changes.Change.TheVariants as changes
 use Rattle.pb_model.specs.Tick.{Standing, Box, put_bit, put_position}
 use Rattle.pb_model.specs.Kept.{Kept, Agrees, with_buses}
 use Rattle.pb_model.specs.Settings.{settings_with, blocks_with, changed, changed_box}
+use Rattle.pb_model.specs.Arming.{blocks_armed, blocks_disarmed}
 use Rattle.pb_model.specs.Tables.{blocks_with_table, with_table, box_with_table}
 use Rattle.pb_model.proofs.BusLemmas.{bit-bus, position-bus}
 
@@ -21,6 +22,18 @@ change_agrees kept box (changes.Set slot raw) h =
             settings = settings_with slot raw s.settings;
             blocks = blocks_with slot raw s.blocks;
           }) h.stands;
+      ticks = h.ticks;
+      changes = h.changes;
+    }
+change_agrees kept box (changes.Arm room) h =
+    record {
+      stands = ap (λ (s : Standing). record { tick = s.tick; bus = s.bus; settings = s.settings; blocks = blocks_armed room s.blocks }) h.stands;
+      ticks = h.ticks;
+      changes = h.changes;
+    }
+change_agrees kept box changes.Disarm h =
+    record {
+      stands = ap (λ (s : Standing). record { tick = s.tick; bus = s.bus; settings = s.settings; blocks = blocks_disarmed s.blocks }) h.stands;
       ticks = h.ticks;
       changes = h.changes;
     }

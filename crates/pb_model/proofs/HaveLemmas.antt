@@ -22,14 +22,15 @@ use Rattle.pb_logic.specs.Srgate as gates
 use Rattle.pb_model.specs.declared.units.Unit.{Unit as AnyUnit}
 use Rattle.pb_model.specs.declared.units.Unit.TheVariants as units
 use Rattle.pb_model.specs.declared.blocks.Block.{Block}
-use Rattle.pb_model.specs.Units.{place_of}
+use Rattle.pb_model.specs.Units.{place_of, armed, disarmed}
+use Rattle.pb_model.specs.Arming.{with_unit as unit_changed}
 use Rattle.pb_model.specs.Changes.{is_taken, is_taken_role}
 use Rattle.pb_model.specs.Tick.{is_bit_mux, kind_of, inputs_of, input_after, block_after, opening_block, opening_selections}
 use Rattle.pb_model.specs.Settings.{so_many_before, bit_place, position_place, with_input, with_field_value, with_value}
 use Rattle.pb_model.specs.Staying.{is_action, IsKept}
 use Rattle.pb_model.proofs.PickLemmas.{touch_again, touch_apart, touch_map}
 use Rattle.pb_model.specs.Tables.{block_with_words}
-use Rattle.pb_model.proofs.StayLemmas.{Sets, unit_again, unit_apart, unit_ticks, unit_words}
+use Rattle.pb_model.proofs.StayLemmas.{Sets, unit_again, unit_apart, unit_ticks, unit_words, unit_arms, unit_disarms}
 use Rattle.pb_model.proofs.SettingLemmas.{delay_only, bit_mux_place, position_mux_place, position_mux_few, first_position, is_bit_mux_at, is_pos_mux_at}
 
 tf : true ≡ false → ⊥
@@ -201,6 +202,28 @@ words_by true _ t x b words = ap (with_unit b) (unit_words b.unit t.field x word
 pub value_words : (t : Slot) (x : ℕ) (b : Block) (words : List ℕ) →
     with_value t x (block_with_words words b) ≡ block_with_words words (with_value t x b)
 value_words t x b words = words_by (t.attr == ITSELF) (type_at t) t x b words
+
+arms_by : (a : Bool) (ty : FieldType) (t : Slot) (x : ℕ) (b : Block) (room : ℕ) →
+    value_by a ty t x (unit_changed (armed room) b) ≡ unit_changed (armed room) (value_by a ty t x b)
+arms_by false ty t x b room = refl
+arms_by true types.BitMux t x b room = refl
+arms_by true types.PosMux t x b room = refl
+arms_by true _ t x b room = ap (with_unit b) (unit_arms b.unit t.field x room)
+
+pub value_arms : (t : Slot) (x : ℕ) (b : Block) (room : ℕ) →
+    with_value t x (unit_changed (armed room) b) ≡ unit_changed (armed room) (with_value t x b)
+value_arms t x b room = arms_by (t.attr == ITSELF) (type_at t) t x b room
+
+disarms_by : (a : Bool) (ty : FieldType) (t : Slot) (x : ℕ) (b : Block) →
+    value_by a ty t x (unit_changed disarmed b) ≡ unit_changed disarmed (value_by a ty t x b)
+disarms_by false ty t x b = refl
+disarms_by true types.BitMux t x b = refl
+disarms_by true types.PosMux t x b = refl
+disarms_by true _ t x b = ap (with_unit b) (unit_disarms b.unit t.field x)
+
+pub value_disarms : (t : Slot) (x : ℕ) (b : Block) →
+    with_value t x (unit_changed disarmed b) ≡ unit_changed disarmed (with_value t x b)
+value_disarms t x b = disarms_by (t.attr == ITSELF) (type_at t) t x b
 
 -- As the box opens.
 

@@ -1,4 +1,5 @@
 pub mod AgreeLemmas
+pub mod ArmLemmas
 pub mod BusLemmas
 pub mod HaveLemmas
 pub mod InputLemmas
@@ -15,3 +16,4 @@ pub mod StayLemmas
 pub mod TableLemmas
 pub mod TickLemmas
 pub mod UnitLemmas
+pub mod WrapLemmas

@@ -1,17 +1,17 @@
 -- What a block reports.
-use Rattle.std.proofs.Common.{◌≡◌, ◌≢◌, ℕ, zero, suc, ◌<◌, ◌≤◌, ◌==◌, inl, inr, Bool, true, false, ltb, leb, ◌&&◌, ◌^◌, [], length, map, if◌then◌else◌, refl, sym, ap, subst, ◌∙◌, arith}
+use Rattle.std.proofs.Common.{◌≡◌, ◌≢◌, ℕ, zero, suc, ◌<◌, ◌≤◌, ◌==◌, inl, inr, Bool, true, false, leb, ◌&&◌, ◌^◌, map, if◌then◌else◌, refl, sym, ap, subst, ◌∙◌, arith}
 use Rattle.std.proofs.lemmas.Bool.{eqb-true}
-use Rattle.std.specs.List.{list_all, range_with_len}
-use Rattle.std.proofs.lemmas.Bool.{ltb-true, leb-true, eqb-false}
-use Rattle.pb_fields.proofs.RowLemmas.{and_left, and_right, all_at}
-use Rattle.pb_fields.specs.Catalogue.{field, block}
+use Rattle.std.specs.List.{range_with_len}
+use Rattle.std.proofs.lemmas.Bool.{leb-true, eqb-false}
+use Rattle.pb_fields.proofs.RowLemmas.{and_left, and_right}
+use Rattle.pb_fields.specs.Catalogue.{block}
 use Rattle.pb_fields.specs.declared.Role.{Role}
 use Rattle.pb_names.specs.declared.pulse.TheConstants as pulse
 use Rattle.pb_names.specs.declared.seq.TheConstants as seq
 use Rattle.pb_names.specs.declared.pcap.TheConstants as pcap
 use Rattle.pb_pcomp.specs.declared.registers.PcompState.{PcompState}
 use Rattle.pb_pcomp.specs.declared.registers.PcompState.TheVariants as states
-use Rattle.pb_model.proofs.SettableLemmas.{fields_at, fields_of_lut, fields_of_srgate, fields_of_div, fields_of_counter, fields_of_clock, fields_of_pcomp, fields_of_pulse, fields_of_seq, at_place, implied}
+use Rattle.pb_model.proofs.SettableLemmas.{fields_at, fields_of_lut, fields_of_srgate, fields_of_div, fields_of_counter, fields_of_clock, fields_of_pcomp, fields_of_pulse, fields_of_seq, fields_of_pcap, at_place, implied}
 use Rattle.pb_names.specs.declared.TheConstants.{ITSELF}
 use Rattle.pb_names.specs.declared.lut.TheConstants as lut
 use Rattle.pb_names.specs.declared.srgate.TheConstants as srgate
@@ -27,10 +27,8 @@ use Rattle.pb_seq.specs.declared.registers.SeqState.{SeqState}
 use Rattle.pb_seq.specs.declared.registers.SeqState.TheVariants as seq_states
 use Rattle.pb_fields.specs.declared.Slot.{Slot}
 use Rattle.pb_fields.specs.declared.Role.TheVariants as roles
-use Rattle.pb_fields.specs.declared.FieldType.{FieldType}
-use Rattle.pb_fields.specs.declared.FieldType.TheVariants as types
 use Rattle.pb_fields.specs.Catalogue.{catalogue}
-use Rattle.pb_fields.specs.Places.{fields_of, type_of}
+use Rattle.pb_fields.specs.Places.{type_of}
 use Rattle.pb_fields.specs.Types.{field_kind, role_of}
 use Rattle.pb_fields.specs.Labels.{label_list}
 use Rattle.pb_fields.specs.Slots.{IsSlot, type_at, kind_of, role_at}
@@ -84,6 +82,23 @@ nothing_read_of_clock (suc zero) small h = cc
 nothing_read_of_clock (suc (suc zero)) small h = cc
 nothing_read_of_clock (suc (suc (suc zero))) small h = cc
 nothing_read_of_clock (suc (suc (suc (suc f)))) small h = absurd (omega arith)
+
+nothing_read_of_pcap : (f : ℕ) → f < 13 → role_of (type_of pcap.BLOCK f) ≡ roles.Read → ⊥
+unfolding catalogue
+nothing_read_of_pcap zero small h = cc
+nothing_read_of_pcap (suc zero) small h = cc
+nothing_read_of_pcap (suc (suc zero)) small h = cc
+nothing_read_of_pcap (suc (suc (suc zero))) small h = cc
+nothing_read_of_pcap (suc (suc (suc (suc zero)))) small h = cc
+nothing_read_of_pcap (suc (suc (suc (suc (suc zero))))) small h = cc
+nothing_read_of_pcap (suc (suc (suc (suc (suc (suc zero)))))) small h = cc
+nothing_read_of_pcap (suc (suc (suc (suc (suc (suc (suc zero))))))) small h = cc
+nothing_read_of_pcap (suc (suc (suc (suc (suc (suc (suc (suc zero)))))))) small h = cc
+nothing_read_of_pcap (suc (suc (suc (suc (suc (suc (suc (suc (suc zero))))))))) small h = cc
+nothing_read_of_pcap (suc (suc (suc (suc (suc (suc (suc (suc (suc (suc zero)))))))))) small h = cc
+nothing_read_of_pcap (suc (suc (suc (suc (suc (suc (suc (suc (suc (suc (suc zero))))))))))) small h = cc
+nothing_read_of_pcap (suc (suc (suc (suc (suc (suc (suc (suc (suc (suc (suc (suc zero)))))))))))) small h = cc
+nothing_read_of_pcap (suc (suc (suc (suc (suc (suc (suc (suc (suc (suc (suc (suc (suc f))))))))))))) small h = absurd (omega arith)
 
 div_read : (f : ℕ) → f < 7 → role_of (type_of div.BLOCK f) ≡ roles.Read → f ≡ div.COUNT
 unfolding catalogue
@@ -173,27 +188,9 @@ readable (units.Clock block) slot s h e = nothing_read_of_clock slot.field (subs
 readable (units.Pulse block) slot s h e = pulse_read slot.field (subst (λ (k : ℕ). slot.field < k) fields_of_pulse (fields_at slot pulse.BLOCK s e)) (read_of_kind slot pulse.BLOCK h e)
 readable (units.Seq block) slot s h e = seq_read slot.field (subst (λ (k : ℕ). slot.field < k) fields_of_seq (fields_at slot seq.BLOCK s e)) (read_of_kind slot seq.BLOCK h e)
 readable (units.Pcomp block) slot s h e = pcomp_read slot.field (subst (λ (k : ℕ). slot.field < k) fields_of_pcomp (fields_at slot pcomp.BLOCK s e)) (read_of_kind slot pcomp.BLOCK h e)
-readable (units.Pcap block) slot s h e = read_of_kind slot pcap.BLOCK h e
+readable (units.Pcap block) slot s h e = nothing_read_of_pcap slot.field (subst (λ (k : ℕ). slot.field < k) fields_of_pcap (fields_at slot pcap.BLOCK s e)) (read_of_kind slot pcap.BLOCK h e)
 
 -- What is read is in the range of its field.
-
--- every list of labels has one
-has_label : FieldType → Bool
-has_label (types.ReadEnum labels) = ltb 0 (length (label_list labels))
-has_label _ = true
-
-label_there : (b f : ℕ) → has_label (type_of b f) ≡ true
-unfolding has_label catalogue label_list
-label_there b f =
-    all_at (λ r. has_label r.holds) (fields_of b) (field [] types.Table 0) f
-    (all_at (λ r. list_all (λ s. has_label s.holds) r.fields) catalogue (block [] 0 []) b refl refl)
-    refl
-
-at_rest : (t : FieldType) → role_of t ≡ roles.Read → has_label t ≡ true → IsRaw (field_kind t) 0
-unfolding has_label
-at_rest types.ReadUint h k = omega arith
-at_rest (types.ReadEnum labels) h k = ltb-true 0 (length (label_list labels)) k
-at_rest _ h k = cc
 
 state_number : (state : PcompState) → compares.state_label state < 5
 state_number states.WaitEnable = omega arith
@@ -240,7 +237,7 @@ in_range (units.Div block) f r small = rw r (div_raw (dividers.value_read block 
 in_range (units.Pcomp block) f r small = pcomp_raw block f r small
 in_range (units.Pulse block) f r small = pulse_raw block f r small
 in_range (units.Seq block) f r small = seq_raw block f r small
-in_range (units.Pcap block) f r small = at_rest (type_of pcap.BLOCK f) r (label_there pcap.BLOCK f)
+in_range (units.Pcap block) f r small = absurd r
 in_range (units.Lut block) f r small = absurd r
 in_range (units.Srgate block) f r small = absurd r
 in_range (units.Counter block) f r small = absurd r

@@ -20,6 +20,8 @@ use Rattle.pb_names.specs.declared.pulse.TheConstants as pulse
 use Rattle.pb_pulse.specs.Pulse as pulses
 use Rattle.pb_names.specs.declared.seq.TheConstants as seq
 use Rattle.pb_seq.specs.Seq as sequencers
+use Rattle.pb_names.specs.declared.pcap.TheConstants as pcap
+use Rattle.pb_pcap.specs.Pcap as captures
 use Rattle.pb_logic.specs.Clock as clocks
 use Rattle.pb_fields.specs.declared.Slot.{Slot}
 use Rattle.pb_fields.specs.declared.FieldType.{FieldType}
@@ -199,6 +201,24 @@ pcomp_settable block (suc (suc (suc (suc (suc (suc (suc (suc (suc (suc (suc zero
 pcomp_settable block (suc (suc (suc (suc (suc (suc (suc (suc (suc (suc (suc (suc zero)))))))))))) raw small own h = cc
 pcomp_settable block (suc (suc (suc (suc (suc (suc (suc (suc (suc (suc (suc (suc (suc f))))))))))))) raw small own h = absurd (omega arith)
 
+pcap_settable : (block : captures.Capture) (f raw : ℕ) → f < 13 → is_own (type_of pcap.BLOCK f) ≡ true → IsRaw (field_kind (type_of pcap.BLOCK f)) raw →
+    captures.IsSettable block f raw
+unfolding catalogue is_own label_list
+pcap_settable block zero raw small own h = cc
+pcap_settable block (suc zero) raw small own h = cc
+pcap_settable block (suc (suc zero)) raw small own h = cc
+pcap_settable block (suc (suc (suc zero))) raw small own h = (refl, h)
+pcap_settable block (suc (suc (suc (suc zero)))) raw small own h = cc
+pcap_settable block (suc (suc (suc (suc (suc zero))))) raw small own h = cc
+pcap_settable block (suc (suc (suc (suc (suc (suc zero)))))) raw small own h = cc
+pcap_settable block (suc (suc (suc (suc (suc (suc (suc zero))))))) raw small own h = cc
+pcap_settable block (suc (suc (suc (suc (suc (suc (suc (suc zero)))))))) raw small own h = cc
+pcap_settable block (suc (suc (suc (suc (suc (suc (suc (suc (suc zero))))))))) raw small own h = cc
+pcap_settable block (suc (suc (suc (suc (suc (suc (suc (suc (suc (suc zero)))))))))) raw small own h = cc
+pcap_settable block (suc (suc (suc (suc (suc (suc (suc (suc (suc (suc (suc zero))))))))))) raw small own h = cc
+pcap_settable block (suc (suc (suc (suc (suc (suc (suc (suc (suc (suc (suc (suc zero)))))))))))) raw small own h = cc
+pcap_settable block (suc (suc (suc (suc (suc (suc (suc (suc (suc (suc (suc (suc (suc f))))))))))))) raw small own h = absurd (omega arith)
+
 pub fields_at : (slot : Slot) (b : ℕ) → IsSlot slot → b ≡ slot.block → slot.field < length (fields_of b)
 fields_at slot b s e = subst (λ (k : ℕ). slot.field < length (fields_of k)) (sym e) s.in_fields
 
@@ -242,6 +262,10 @@ pub fields_of_pcomp : length (fields_of pcomp.BLOCK) ≡ 13
 unfolding catalogue
 fields_of_pcomp = refl
 
+pub fields_of_pcap : length (fields_of pcap.BLOCK) ≡ 13
+unfolding catalogue
+fields_of_pcap = refl
+
 -- what is set belongs to the unit
 pub settable : (unit : AnyUnit) (slot : Slot) (raw : ℕ) → IsSet slot raw → slot.attr ≡ ITSELF → place_of unit ≡ slot.block →
     type_at slot ≢ types.BitMux → type_at slot ≢ types.PosMux → IsSettable unit slot.field raw
@@ -269,4 +293,6 @@ settable (units.Seq block) slot raw s a e b p =
 settable (units.Pcomp block) slot raw s a e b p =
     pcomp_settable block slot.field raw (subst (λ (k : ℕ). slot.field < k) fields_of_pcomp (fields_at slot pcomp.BLOCK s.in_catalogue e))
     (own_at slot pcomp.BLOCK e (own_field (type_at slot) (field_taken slot raw s) b p)) (raw_at slot raw pcomp.BLOCK s a e)
-settable (units.Pcap block) slot raw s a e b p = tt
+settable (units.Pcap block) slot raw s a e b p =
+    pcap_settable block slot.field raw (subst (λ (k : ℕ). slot.field < k) fields_of_pcap (fields_at slot pcap.BLOCK s.in_catalogue e))
+    (own_at slot pcap.BLOCK e (own_field (type_at slot) (field_taken slot raw s) b p)) (raw_at slot raw pcap.BLOCK s a e)

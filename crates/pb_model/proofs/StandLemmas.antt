@@ -13,7 +13,7 @@ use Rattle.pb_fields.specs.Slots.{IsSlot, type_at, default_of}
 use Rattle.pb_buses.specs.declared.Bus.{Bus}
 use Rattle.pb_model.specs.declared.units.Unit.{Unit as AnyUnit}
 use Rattle.pb_model.specs.declared.units.Unit.TheVariants as units
-use Rattle.pb_model.specs.Units.{place_of, with_words}
+use Rattle.pb_model.specs.Units.{place_of, with_words, armed, disarmed}
 use Rattle.pb_model.specs.declared.blocks.Block.{Block}
 use Rattle.pb_model.specs.declared.changes.Change.TheVariants as changes
 use Rattle.pb_model.specs.Machines.{machines, machine_kinds, with_named}
@@ -21,13 +21,15 @@ use Rattle.pb_model.specs.Changes.{is_taken, is_taken_role}
 use Rattle.pb_model.specs.Tick.{Box, is_bit_mux, kind_of, block_after, opening_block, opening_box, tick, with_bus}
 use Rattle.pb_model.specs.Kept.{IsWhole}
 use Rattle.pb_model.specs.Settings.{with_value, block_of_slot, settings_with, blocks_with, changed_box}
+use Rattle.pb_model.specs.Arming.{capture, with_unit, box_with_blocks}
 use Rattle.pb_model.specs.Staying.{IsKept, HasValue}
 use Rattle.pb_model.specs.Tables.{sequencer, block_with_words, blocks_with_table, box_with_table}
 use Rattle.pb_model.proofs.PickLemmas.{touch_again, touch_apart}
 use Rattle.pb_model.proofs.NamedLemmas.{Fits, named_again, named_apart, named_map, named_first, named_kinds}
 use Rattle.pb_model.proofs.UnitLemmas.{value_stays}
+use Rattle.pb_model.proofs.ArmLemmas.{arming_keeps, disarming_keeps}
 use Rattle.pb_model.proofs.TickLemmas.{kinds_stay, opening_whole}
-use Rattle.pb_model.proofs.HaveLemmas.{value_again, value_apart, value_ticks, value_words, value_first, taken_delay, one_slot}
+use Rattle.pb_model.proofs.HaveLemmas.{value_again, value_apart, value_ticks, value_words, value_arms, value_disarms, value_first, taken_delay, one_slot}
 use Rattle.pb_model.proofs.SettingLemmas.{holds_by, always, implied, is_bit_mux_at}
 use Rattle.pb_fields.specs.Order.{slot_at}
 use Rattle.pb_fields.proofs.RunLemmas.{of_fields}
@@ -195,6 +197,35 @@ module _ (box : Box) (u : Slot) (y : ℕ) (h : HasValue box u y) where
           (fits box.stands.blocks w.kinds) (λ a n b is. value_words u y b words)
           ∙ ap (blocks_with_table number words) e
 
+-- PCAP is armed or disarmed.
+
+module _ (box : Box) (u : Slot) (y : ℕ) (h : HasValue box u y) (w : IsWhole box.stands.blocks box.stands.settings) where
+  has_changed : (change : AnyUnit → AnyUnit) → ((b : Block) → with_value u y (with_unit change b) ≡ with_unit change (with_value u y b)) →
+      HasValue (box_with_blocks box (with_named machines capture (with_unit change) box.stands.blocks)) u y
+  has_changed change k =
+      let changed : List Block = with_named machines capture (with_unit change) box.stands.blocks in
+      both (box_with_blocks box changed) (settings_with u y box.stands.settings) box.stands.settings
+      (blocks_with u y changed) changed
+      (settings_of (changed_box box (changes.Set u y)) box h)
+      (in_blocks (u.block == bits.BLOCK) (blocks_of (changed_box box (changes.Set u y)) box h))
+    where
+      in_blocks : (c : Bool) →
+          (if c then box.stands.blocks else with_named machines (block_of_slot u) (with_value u y) box.stands.blocks) ≡ box.stands.blocks →
+          (if c then with_named machines capture (with_unit change) box.stands.blocks
+          else with_named machines (block_of_slot u) (with_value u y) (with_named machines capture (with_unit change) box.stands.blocks))
+          ≡ with_named machines capture (with_unit change) box.stands.blocks
+      in_blocks true e = refl
+      in_blocks false e =
+          named_apart kind_of machines capture (block_of_slot u) (with_unit change) (with_value u y) box.stands.blocks
+          (fits box.stands.blocks w.kinds) (λ a n b is. k b)
+          ∙ ap (with_named machines capture (with_unit change)) e
+
+  pub has_armed : (room : ℕ) → HasValue (changed_box box (changes.Arm room)) u y
+  has_armed room = has_changed (armed room) (λ b. value_arms u y b room)
+
+  pub has_disarmed : HasValue (changed_box box changes.Disarm) u y
+  has_disarmed = has_changed disarmed (λ b. value_disarms u y b)
+
 -- As the box opens.
 
 -- the settings of BITS are 0
@@ -271,6 +302,22 @@ whole_written box number words w =
       kinds =
           named_kinds kind_of machines (sequencer number) (block_with_words words) box.stands.blocks (λ b. words_stay words b.unit)
           ∙ w.kinds;
+      four = w.four;
+    }
+
+pub whole_armed : (box : Box) (room : ℕ) → IsWhole box.stands.blocks box.stands.settings →
+    IsWhole (changed_box box (changes.Arm room)).stands.blocks (changed_box box (changes.Arm room)).stands.settings
+whole_armed box room w =
+    record {
+      kinds = named_kinds kind_of machines capture (with_unit (armed room)) box.stands.blocks (λ b. arming_keeps room b.unit) ∙ w.kinds;
+      four = w.four;
+    }
+
+pub whole_disarmed : (box : Box) → IsWhole box.stands.blocks box.stands.settings →
+    IsWhole (changed_box box changes.Disarm).stands.blocks (changed_box box changes.Disarm).stands.settings
+whole_disarmed box w =
+    record {
+      kinds = named_kinds kind_of machines capture (with_unit disarmed) box.stands.blocks (λ b. disarming_keeps b.unit) ∙ w.kinds;
       four = w.four;
     }
 

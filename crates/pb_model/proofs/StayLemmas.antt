@@ -9,6 +9,7 @@ use Rattle.pb_names.specs.declared.clock.TheConstants as clock
 use Rattle.pb_names.specs.declared.pcomp.TheConstants as pcomp
 use Rattle.pb_names.specs.declared.pulse.TheConstants as pulse
 use Rattle.pb_names.specs.declared.seq.TheConstants as seq
+use Rattle.pb_names.specs.declared.pcap.TheConstants as pcap
 use Rattle.pb_buses.specs.declared.Inputs.{Inputs}
 use Rattle.pb_buses.specs.Edges.{edge_of}
 use Rattle.pb_logic.specs.Lut as luts
@@ -26,10 +27,11 @@ use Rattle.pb_pcomp.specs.declared.PcompSettings.{PcompSettings}
 use Rattle.pb_pulse.specs.Pulse as pulses
 use Rattle.pb_pulse.specs.declared.PulseSettings.{PulseSettings}
 use Rattle.pb_seq.specs.Seq as sequencers
+use Rattle.pb_pcap.specs.Pcap as captures
 use Rattle.pb_seq.specs.declared.SeqSettings.{SeqSettings}
 use Rattle.pb_model.specs.declared.units.Unit.{Unit as AnyUnit}
 use Rattle.pb_model.specs.declared.units.Unit.TheVariants as units
-use Rattle.pb_model.specs.Units.{next, with_field, with_words}
+use Rattle.pb_model.specs.Units.{next, with_field, with_words, armed, disarmed}
 use Rattle.pb_model.proofs.PickLemmas.{Setter, AreFinal, AreApart, pick_again, pick_apart}
 
 -- what a kind keeps: a value given again changes nothing, values of two fields can be given in any order, and
@@ -240,6 +242,34 @@ sequencer_stays =
       ticks = λ b f x inputs t k e. ap (λ s. record (sequencers.next b inputs t) { settings = s }) (ap (λ (c : sequencers.Sequencer). c.settings) e);
     }
 
+abbrev capture_setters : List (Setter captures.Capture)
+capture_setters =
+    record { field = pcap.TRIG_EDGE; give = λ s x. record { settings = record { trig_edge = edge_of x }; registers = s.registers } } ∷ []
+
+capture_final : AreFinal capture_setters
+capture_final = ((λ s x. refl), tt)
+
+capture_apart : AreApart capture_setters
+capture_apart = (tt, tt)
+
+capture_ticks : (b : captures.Capture) (f x : ℕ) (inputs : Inputs) (t : ℕ) → captures.with_field b f x ≡ b →
+    captures.with_field (captures.next b inputs t) f x ≡ captures.next b inputs t
+capture_ticks b f x inputs t e = by (f == pcap.TRIG_EDGE) e
+  where
+    by : (c : Bool) → (if c then record { settings = record { trig_edge = edge_of x }; registers = b.registers } else b) ≡ b →
+        (if c then record { settings = record { trig_edge = edge_of x }; registers = captures.registers_after b inputs } else captures.next b inputs t)
+        ≡ captures.next b inputs t
+    by true e = ap (λ s. record { settings = s; registers = captures.registers_after b inputs }) (ap (λ (c : captures.Capture). c.settings) e)
+    by false e = refl
+
+pub capture_stays : Stays captures.Capture captures.with_field captures.next always
+capture_stays =
+    record {
+      again = λ b f x k. pick_again capture_setters capture_final f b x;
+      apart = λ b f g x y ne k. pick_apart capture_setters capture_apart f g b x y ne;
+      ticks = λ b f x inputs t k e. capture_ticks b f x inputs t e;
+    }
+
 -- Units.
 
 -- the field of a unit only sets
@@ -256,7 +286,7 @@ unit_again (units.Counter b) f x k = ap units.Counter (counter_stays.again b f x
 unit_again (units.Clock b) f x k = ap units.Clock (clock_stays.again b f x k)
 unit_again (units.Seq b) f x k = ap units.Seq (sequencer_stays.again b f x k)
 unit_again (units.Pcomp b) f x k = ap units.Pcomp (compare_stays.again b f x k)
-unit_again (units.Pcap b) f x k = refl
+unit_again (units.Pcap b) f x k = ap units.Pcap (capture_stays.again b f x k)
 
 pub unit_apart : (u : AnyUnit) (f g x y : ℕ) → f ≢ g → Sets u g → with_field (with_field u f x) g y ≡ with_field (with_field u g y) f x
 unit_apart (units.Lut b) f g x y ne k = ap units.Lut (lut_stays.apart b f g x y ne k)
@@ -267,7 +297,7 @@ unit_apart (units.Counter b) f g x y ne k = ap units.Counter (counter_stays.apar
 unit_apart (units.Clock b) f g x y ne k = ap units.Clock (clock_stays.apart b f g x y ne k)
 unit_apart (units.Seq b) f g x y ne k = ap units.Seq (sequencer_stays.apart b f g x y ne k)
 unit_apart (units.Pcomp b) f g x y ne k = ap units.Pcomp (compare_stays.apart b f g x y ne k)
-unit_apart (units.Pcap b) f g x y ne k = refl
+unit_apart (units.Pcap b) f g x y ne k = ap units.Pcap (capture_stays.apart b f g x y ne k)
 
 pub unit_ticks : (u : AnyUnit) (f x : ℕ) (inputs : Inputs) (t : ℕ) → Sets u f → with_field u f x ≡ u → with_field (next u inputs t) f x ≡ next u inputs t
 unit_ticks (units.Lut b) f x inputs t k e =
@@ -294,7 +324,9 @@ unit_ticks (units.Seq b) f x inputs t k e =
 unit_ticks (units.Pcomp b) f x inputs t k e =
     let i : compares.with_field b f x ≡ b = cc in
     ap units.Pcomp (compare_stays.ticks b f x inputs t k i)
-unit_ticks (units.Pcap b) f x inputs t k e = refl
+unit_ticks (units.Pcap b) f x inputs t k e =
+    let i : captures.with_field b f x ≡ b = cc in
+    ap units.Pcap (capture_stays.ticks b f x inputs t k i)
 
 -- a table write and a setting can be made in any order
 pub unit_words : (u : AnyUnit) (f x : ℕ) (words : List ℕ) → with_field (with_words words u) f x ≡ with_words words (with_field u f x)
@@ -307,3 +339,38 @@ unit_words (units.Clock b) f x words = refl
 unit_words (units.Seq b) f x words = refl
 unit_words (units.Pcomp b) f x words = refl
 unit_words (units.Pcap b) f x words = refl
+
+-- arming and a setting can be made in any order, and so can disarming
+pub unit_arms : (u : AnyUnit) (f x room : ℕ) → with_field (armed room u) f x ≡ armed room (with_field u f x)
+unit_arms (units.Lut b) f x room = refl
+unit_arms (units.Srgate b) f x room = refl
+unit_arms (units.Div b) f x room = refl
+unit_arms (units.Pulse b) f x room = refl
+unit_arms (units.Counter b) f x room = refl
+unit_arms (units.Clock b) f x room = refl
+unit_arms (units.Seq b) f x room = refl
+unit_arms (units.Pcomp b) f x room = refl
+unit_arms (units.Pcap b) f x room = by (f == pcap.TRIG_EDGE)
+  where
+    by : (c : Bool) →
+        units.Pcap (if c then record { settings = record { trig_edge = edge_of x }; registers = (captures.armed b room).registers } else captures.armed b room)
+        ≡ units.Pcap (captures.armed (if c then record { settings = record { trig_edge = edge_of x }; registers = b.registers } else b) room)
+    by true = refl
+    by false = refl
+
+pub unit_disarms : (u : AnyUnit) (f x : ℕ) → with_field (disarmed u) f x ≡ disarmed (with_field u f x)
+unit_disarms (units.Lut b) f x = refl
+unit_disarms (units.Srgate b) f x = refl
+unit_disarms (units.Div b) f x = refl
+unit_disarms (units.Pulse b) f x = refl
+unit_disarms (units.Counter b) f x = refl
+unit_disarms (units.Clock b) f x = refl
+unit_disarms (units.Seq b) f x = refl
+unit_disarms (units.Pcomp b) f x = refl
+unit_disarms (units.Pcap b) f x = by (f == pcap.TRIG_EDGE)
+  where
+    by : (c : Bool) →
+        units.Pcap (if c then record { settings = record { trig_edge = edge_of x }; registers = (captures.disarmed b).registers } else captures.disarmed b)
+        ≡ units.Pcap (captures.disarmed (if c then record { settings = record { trig_edge = edge_of x }; registers = b.registers } else b))
+    by true = refl
+    by false = refl

@@ -1,5 +1,5 @@
 -- One tick: what is kept goes on as the box does.
-use Rattle.std.proofs.Common.{◌≡◌, ℕ, suc, ◌+◌, ◌-◌, ◌<◌, ◌≤◌, Bool, false, ℤ, List, [], ◌∷◌, ◌++◌, length, get_or, take, drop, map, refl, sym, ap, subst, ◌∙◌, arith, append_assoc, add-one, length-append, drop-cons, set, replicate, ◌≢◌}
+use Rattle.std.proofs.Common.{◌≡◌, ℕ, suc, ◌+◌, ◌-◌, ◌<◌, ◌≤◌, Bool, false, ℤ, List, [], ◌∷◌, ◌++◌, length, get_or, take, drop, map, refl, sym, ap, subst, ◌∙◌, arith, append_assoc, add-one, length-append, drop-cons, set, replicate}
 use Rattle.std.proofs.lemmas.List.{append-nil, length-map, length-take-le, get_or-append-add, map-append, take_more}
 use Rattle.std.proofs.Math.Seq.{set-append_seam}
 use Rattle.std.specs.List.{flat_map, sum_by, range_with_len}
@@ -7,7 +7,6 @@ use Rattle.pb_fields.specs.Catalogue.{catalogue}
 use Rattle.pb_fields.specs.Places.{count_of}
 use Rattle.pb_buses.specs.declared.Inputs.{Inputs}
 use Rattle.pb_buses.specs.declared.Emit.{Emit}
-use Rattle.pb_buses.specs.declared.Emit.TheVariants as emits
 use Rattle.pb_buses.specs.declared.Bus.{Bus}
 use Rattle.pb_buses.specs.declared.Buses.{Buses}
 use Rattle.pb_buses.specs.Buses.{AgreesWithPast, opening_buses}
@@ -187,11 +186,6 @@ pub one_emits : (bus : Bus) (tick i : ℕ) (blocks : List Block) (d : Block) (be
 one_emits bus tick i blocks d before emit after h e is =
     ap (λ x. handed_on x (map (emitted_by bus tick) (drop (i + 1) blocks))) (is ∙ ap (or_before before) e)
     ∙ sym (ap (λ l. handed_on before (map (emitted_by bus tick) l)) (from_here blocks i d h))
-
-pub something_emitted : (before emit : Emit) → emit ≢ emits.Nothing → emit ≡ or_before before emit
-something_emitted before emits.Nothing h = absurd (h refl)
-something_emitted before (emits.Record record_) h = refl
-something_emitted before (emits.Completed condition) h = refl
 
 pub item_is : (f : Block → Block) (blocks items : List Block) (i : ℕ) (d : Block) → i < length blocks →
     items ≡ map f (take i blocks) ++ drop i blocks → get_or items i d ≡ get_or blocks i d

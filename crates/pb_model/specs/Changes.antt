@@ -1,5 +1,5 @@
 -- The changes that the box takes.
-use Rattle.std.specs.Prelude.{◌≡◌, ℕ, Bool, true, false, Option, Some, None}
+use Rattle.std.specs.Prelude.{◌≡◌, ℕ, Bool, true, false, List, Option, Some, None}
 use Rattle.pb_fields.specs.declared.Slot.{Slot}
 use Rattle.pb_fields.specs.declared.Role.{Role}
 use Rattle.pb_fields.specs.declared.Role.TheVariants as roles
@@ -9,8 +9,10 @@ use Rattle.pb_fields.specs.declared.Attribute.TheVariants as attributes
 use Rattle.pb_fields.specs.Types.{role_of}
 use Rattle.pb_fields.specs.Slots.{IsSlot, type_at, attribute_at, kind_of}
 use Rattle.pb_fields.specs.Values.{IsRaw}
+use Rattle.pb_model.specs.declared.blocks.Block.{Block}
 use Rattle.pb_model.specs.declared.changes.Change.{Change}
 use Rattle.pb_model.specs.declared.changes.Change.TheVariants as changes
+use Rattle.pb_model.specs.Arming.{is_capture_idle}
 
 -- the blocks take a value of fields of this role
 abbrev pub is_taken_role : Role → Bool
@@ -40,6 +42,8 @@ pub record IsSet (slot : Slot) (raw : ℕ) : Type 0 where
   pub taken : is_taken slot ≡ true
   pub in_range : IsRaw (kind_of slot) raw
 
--- the box can take the change
-abbrev pub IsChange : Change → Type 0
-IsChange (changes.Set slot raw) = IsSet slot raw
+-- a box with these blocks can take the change: PCAP is armed only where it is idle, and disarmed only where it isn't
+abbrev pub IsChange : List Block → Change → Type 0
+IsChange blocks (changes.Set slot raw) = IsSet slot raw
+IsChange blocks (changes.Arm room) = is_capture_idle blocks ≡ true
+IsChange blocks changes.Disarm = is_capture_idle blocks ≡ false

@@ -1,10 +1,11 @@
+pub mod Arming
 pub mod Changes
 pub mod Examples
 pub mod Kept
 pub mod Lending
 pub mod Machines
 pub mod Outputs
-pub mod Resting
+pub mod Parts
 pub mod Settings
 pub mod Staying
 pub mod Tables

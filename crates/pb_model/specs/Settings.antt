@@ -1,4 +1,4 @@
--- What a change does to the box: a setting takes a raw value.
+-- What a change does to the box: a setting takes a raw value, or PCAP is armed or disarmed.
 use Rattle.std.specs.Prelude.{ℕ, ◌==◌, Bool, true, false, List, length, filter, take, slice_index_or, slice_set, if◌then◌else◌}
 use Rattle.pb_names.specs.declared.TheConstants.{ITSELF}
 use Rattle.pb_names.specs.declared.bits.TheConstants as bits
@@ -16,6 +16,7 @@ use Rattle.pb_model.specs.Units.{with_field, value_read}
 use Rattle.pb_model.specs.Machines.{Name, name, machines, with_named, of_name}
 use Rattle.pb_model.specs.Tick.{Box, is_bit_mux, opening_block}
 use Rattle.pb_model.specs.Kept.{Kept}
+use Rattle.pb_model.specs.Arming.{blocks_armed, blocks_disarmed, box_with_blocks, kept_with_blocks}
 
 abbrev pub is_pos_mux : FieldType → Bool
 is_pos_mux types.PosMux = true
@@ -86,6 +87,8 @@ changed_box box (changes.Set slot raw) =
       };
       past = box.past;
     }
+changed_box box (changes.Arm room) = box_with_blocks box (blocks_armed room box.stands.blocks)
+changed_box box changes.Disarm = box_with_blocks box (blocks_disarmed box.stands.blocks)
 
 -- what is kept of the box after a change
 abbrev pub with_setting : Kept → Slot → ℕ → Kept
@@ -99,6 +102,8 @@ with_setting kept slot raw =
 
 abbrev pub changed : Kept → Change → Kept
 changed kept (changes.Set slot raw) = with_setting kept slot raw
+changed kept (changes.Arm room) = kept_with_blocks kept (blocks_armed room kept.blocks)
+changed kept changes.Disarm = kept_with_blocks kept (blocks_disarmed kept.blocks)
 
 -- what a read field of one of the blocks shows
 abbrev pub read_of : List Block → Slot → ℕ

@@ -1,6 +1,6 @@
 -- A unit is one of the nine kinds of block, with its settings and registers. What is said of it is what is
 -- said of the block inside.
-use Rattle.std.specs.Prelude.{◌≡◌, ℕ, ◌==◌, List, [], length, filter, if◌then◌else◌, refl}
+use Rattle.std.specs.Prelude.{◌≡◌, ℕ, ◌==◌, Bool, true, List, [], length, filter, if◌then◌else◌, refl}
 use Rattle.pb_fields.specs.Catalogue.{FieldRow}
 use Rattle.pb_fields.specs.Places.{fields_of}
 use Rattle.pb_fields.specs.Entries.{is_bit_out, is_pos_out}
@@ -25,7 +25,7 @@ use Rattle.pb_logic.specs.Clock as clocks
 use Rattle.pb_pulse.specs.Pulse as pulses
 use Rattle.pb_seq.specs.Seq as sequencers
 use Rattle.pb_pcomp.specs.Pcomp as compares
-use Rattle.pb_model.specs.Resting as resting
+use Rattle.pb_pcap.specs.Pcap as captures
 use Rattle.pb_model.specs.declared.units.Unit.{Unit as AnyUnit}
 use Rattle.pb_model.specs.declared.units.Unit.TheVariants as units
 
@@ -51,7 +51,7 @@ next (units.Counter block) inputs tick = units.Counter (counters.rules.next bloc
 next (units.Clock block) inputs tick = units.Clock (clocks.rules.next block inputs tick)
 next (units.Seq block) inputs tick = units.Seq (sequencers.rules.next block inputs tick)
 next (units.Pcomp block) inputs tick = units.Pcomp (compares.rules.next block inputs tick)
-next (units.Pcap block) inputs tick = units.Pcap (resting.rules.next block inputs tick)
+next (units.Pcap block) inputs tick = units.Pcap (captures.rules.next block inputs tick)
 
 -- what that tick emits
 abbrev pub emitted : AnyUnit → Inputs → ℕ → Emit
@@ -63,7 +63,12 @@ emitted (units.Counter block) inputs tick = counters.rules.emitted block inputs 
 emitted (units.Clock block) inputs tick = clocks.rules.emitted block inputs tick
 emitted (units.Seq block) inputs tick = sequencers.rules.emitted block inputs tick
 emitted (units.Pcomp block) inputs tick = compares.rules.emitted block inputs tick
-emitted (units.Pcap block) inputs tick = resting.rules.emitted block inputs tick
+emitted (units.Pcap block) inputs tick = captures.rules.emitted block inputs tick
+
+-- whether that tick emits nothing: every tick of a kind but PCAP does
+abbrev pub is_quiet : AnyUnit → Inputs → Bool
+is_quiet (units.Pcap block) inputs = captures.is_quiet block inputs
+is_quiet _ inputs = true
 
 -- without its running counts
 abbrev pub uncounted : Inputs → AnyUnit → AnyUnit
@@ -75,7 +80,7 @@ uncounted inputs (units.Counter block) = units.Counter (counters.rules.uncounted
 uncounted inputs (units.Clock block) = units.Clock (clocks.rules.uncounted inputs block)
 uncounted inputs (units.Seq block) = units.Seq (sequencers.rules.uncounted inputs block)
 uncounted inputs (units.Pcomp block) = units.Pcomp (compares.rules.uncounted inputs block)
-uncounted inputs (units.Pcap block) = units.Pcap (resting.rules.uncounted inputs block)
+uncounted inputs (units.Pcap block) = units.Pcap (captures.rules.uncounted inputs block)
 
 abbrev pub rules : Rules AnyUnit
 rules = record { next = next; emitted = emitted; uncounted = uncounted }
@@ -90,7 +95,7 @@ shown (units.Counter block) = counters.shown block
 shown (units.Clock block) = clocks.shown block
 shown (units.Seq block) = sequencers.shown block
 shown (units.Pcomp block) = compares.shown block
-shown (units.Pcap block) = resting.shown block
+shown (units.Pcap block) = captures.shown block
 
 -- whether a field takes a raw value
 abbrev pub IsSettable : AnyUnit → ℕ → ℕ → Type 0
@@ -102,7 +107,7 @@ IsSettable (units.Counter block) field raw = counters.IsSettable block field raw
 IsSettable (units.Clock block) field raw = clocks.IsSettable block field raw
 IsSettable (units.Seq block) field raw = sequencers.IsSettable block field raw
 IsSettable (units.Pcomp block) field raw = compares.IsSettable block field raw
-IsSettable (units.Pcap block) field raw = resting.IsSettable block field raw
+IsSettable (units.Pcap block) field raw = captures.IsSettable block field raw
 
 -- with this raw value in a field
 abbrev pub with_field : AnyUnit → ℕ → ℕ → AnyUnit
@@ -114,7 +119,7 @@ with_field (units.Counter block) field raw = units.Counter (counters.with_field 
 with_field (units.Clock block) field raw = units.Clock (clocks.with_field block field raw)
 with_field (units.Seq block) field raw = units.Seq (sequencers.with_field block field raw)
 with_field (units.Pcomp block) field raw = units.Pcomp (compares.with_field block field raw)
-with_field (units.Pcap block) field raw = units.Pcap (resting.with_field block field raw)
+with_field (units.Pcap block) field raw = units.Pcap (captures.with_field block field raw)
 
 -- whether a field is one that is read
 abbrev pub IsRead : AnyUnit → ℕ → Type 0
@@ -126,7 +131,7 @@ IsRead (units.Counter block) field = ⊥
 IsRead (units.Clock block) field = ⊥
 IsRead (units.Seq block) field = sequencers.IsRead field
 IsRead (units.Pcomp block) field = compares.IsRead field
-IsRead (units.Pcap block) field = resting.IsRead pcap.BLOCK field
+IsRead (units.Pcap block) field = ⊥
 
 -- the value of a read field
 abbrev pub value_read : AnyUnit → ℕ → ℕ
@@ -138,7 +143,7 @@ value_read (units.Counter block) field = 0
 value_read (units.Clock block) field = 0
 value_read (units.Seq block) field = sequencers.value_read block field
 value_read (units.Pcomp block) field = compares.value_read block field
-value_read (units.Pcap block) field = resting.value_read block field
+value_read (units.Pcap block) field = 0
 
 -- Tables.
 
@@ -151,6 +156,22 @@ words_of _ = []
 abbrev pub with_words : List ℕ → AnyUnit → AnyUnit
 with_words words (units.Seq block) = units.Seq (sequencers.with_table block words)
 with_words words unit = unit
+
+-- Arming: of a unit that is PCAP.
+
+-- whether it is neither armed nor running
+abbrev pub is_idle : AnyUnit → Bool
+is_idle (units.Pcap block) = captures.is_idle block
+is_idle _ = true
+
+-- armed, with room for so many records
+abbrev pub armed : ℕ → AnyUnit → AnyUnit
+armed room (units.Pcap block) = units.Pcap (captures.armed block room)
+armed room unit = unit
+
+abbrev pub disarmed : AnyUnit → AnyUnit
+disarmed (units.Pcap block) = units.Pcap (captures.disarmed block)
+disarmed unit = unit
 
 -- As the box opens.
 
@@ -165,7 +186,7 @@ opening_unit b =
     if b == clock.BLOCK then units.Clock clocks.opening else (
     if b == seq.BLOCK then units.Seq sequencers.opening else (
     if b == pcomp.BLOCK then units.Pcomp compares.opening else (
-    units.Pcap resting.opening))))))))
+    units.Pcap captures.opening))))))))
 
 -- how many bit outputs and position outputs a kind has
 unfoldable pub bit_outputs : ℕ → ℕ
@@ -179,5 +200,5 @@ pub counts_unseen : CountsAreUnseen rules shown
 counts_unseen =
     record {
       outputs = λ seen unit. elim unit as (λ u. shown (uncounted seen u) ≡ shown u) [ units.Lut block ↦ refl | units.Srgate block ↦ refl | units.Div block ↦ refl | units.Pulse block ↦ refl | units.Counter block ↦ refl | units.Clock block ↦ refl | units.Seq block ↦ refl | units.Pcomp block ↦ refl | units.Pcap block ↦ refl ];
-      records = λ seen inputs tick unit. elim unit as (λ u. is_record (emitted (uncounted seen u) inputs tick) ≡ is_record (emitted u inputs tick)) [ units.Lut block ↦ refl | units.Srgate block ↦ refl | units.Div block ↦ refl | units.Pulse block ↦ refl | units.Counter block ↦ refl | units.Clock block ↦ refl | units.Seq block ↦ refl | units.Pcomp block ↦ refl | units.Pcap block ↦ refl ];
+      records = λ seen inputs tick unit. elim unit as (λ u. is_record (emitted (uncounted seen u) inputs tick) ≡ is_record (emitted u inputs tick)) [ units.Lut block ↦ refl | units.Srgate block ↦ refl | units.Div block ↦ refl | units.Pulse block ↦ refl | units.Counter block ↦ refl | units.Clock block ↦ refl | units.Seq block ↦ refl | units.Pcomp block ↦ refl | units.Pcap block ↦ captures.counts_unseen.records seen inputs tick block ];
     }

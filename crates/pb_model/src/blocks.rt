@@ -1,6 +1,8 @@
-ghost use Rattle.std.specs.Prelude.{◌≡◌, ◌+◌, ◌^◌, ◌<◌, ◌≤◌, map};
+ghost use Rattle.std.specs.Prelude.{◌≡◌, ◌+◌, ◌^◌, ◌<◌, ◌≤◌, true, false, map};
 ghost use Rattle.pb_buses.specs.Buses.{position};
-ghost use Rattle.pb_model.specs.Tick.{inputs_of, seen_on, input_after, block_after, emitted_by, sees_all};
+ghost use Rattle.pb_model.specs.Tick.{inputs_of, seen_on, input_after, block_after, emitted_by, or_before, sees_all};
+ghost use Rattle.pb_model.specs.Units.{next, emitted};
+ghost use Rattle.pb_model.specs.Parts.{IsNarrow};
 
 use crate::units::Unit;
 use pb_buses::{Buses, Emit, Inputs, Machine, Mux};
@@ -52,9 +54,63 @@ impl Block {
         ensures emits { result ≡ emitted_by buses.now.bus tick self.old }
         ensures counts { steps.new ≡ steps.old + 1 }
     {
-        let inputs = self.inputs(buses);
-        self.push(buses);
-        self.unit.step(&inputs, tick, steps)
+        let mut emit = Emit::Nothing;
+        if self.sees_all() {
+            self.step_capture(buses, tick, steps, &mut emit);
+        } else {
+            self.advance(buses, &mut nothing_seen(), tick, steps);
+        }
+        emit
+    }
+
+    /// One tick of PCAP. What it emits is put in `emit`, which stays as it is where that is nothing. The words
+    /// of the bit bus, which no more than a record has, are packed only where something is emitted.
+    pub(crate) fn step_capture<L: Ledger>(
+        &mut self,
+        buses: &Buses,
+        tick: u64,
+        steps: &mut Steps<L>,
+        emit: &mut Emit,
+    )
+        requires kind { sees_all self.old ≡ true }
+        requires tick { tick < 2 ^ 62 }
+        ensures next { self.new ≡ block_after buses.now.bus tick self.old }
+        ensures emits { emit.new ≡ or_before emit.old (emitted_by buses.now.bus tick self.old) }
+        ensures counts { steps.new ≡ steps.old + 1 }
+    {
+        let mut inputs = Inputs {
+            bits: take(&mut self.bits, buses),
+            positions: self.selected_positions(buses),
+            words: [0; 4],
+            bus: buses.bus().positions,
+        };
+        if self.unit.is_quiet(&inputs) {
+            self.unit.advance(&inputs, tick, steps);
+            return;
+        }
+        inputs.words = buses.words();
+        step_into(&mut self.unit, &inputs, tick, steps, emit);
+    }
+
+    /// One tick of a block of any kind but PCAP, which emits nothing. What it sees is put in `inputs`.
+    #[tactic(auto, using(crate::proofs::ArmLemmas::others_are_quiet))]
+    pub(crate) fn advance<L: Ledger>(
+        &mut self,
+        buses: &Buses,
+        inputs: &mut Inputs,
+        tick: u64,
+        steps: &mut Steps<L>,
+    )
+        requires kind { sees_all self.old ≡ false }
+        requires narrow { IsNarrow inputs.old }
+        requires tick { tick < 2 ^ 62 }
+        ensures next { self.new ≡ block_after buses.now.bus tick self.old }
+        ensures narrow { IsNarrow inputs.new }
+        ensures counts { steps.new ≡ steps.old + 1 }
+    {
+        inputs.bits = take(&mut self.bits, buses);
+        inputs.positions = self.selected_positions(buses);
+        self.unit.advance(inputs, tick, steps);
     }
 
     /// The delay line of each bit input takes what the input selects.
@@ -69,7 +125,7 @@ impl Block {
     }
 
     /// PCAP alone sees the whole of both buses.
-    fn sees_all(&self) -> bool
+    pub(crate) fn sees_all(&self) -> bool
         ensures { result ≡ sees_all self.now }
     {
         self.unit.place() == pcap::BLOCK
@@ -87,6 +143,26 @@ impl Block {
     }
 }
 
+/// One tick of a unit. What it emits is put in `emit`, which stays as it is where that is nothing.
+#[inline(never)]
+fn step_into<L: Ledger>(
+    unit: &mut Unit,
+    inputs: &Inputs,
+    tick: u64,
+    steps: &mut Steps<L>,
+    emit: &mut Emit,
+)
+    requires { tick < 2 ^ 62 }
+    ensures next { unit.new ≡ next unit.old inputs.now tick }
+    ensures emits { emit.new ≡ or_before emit.old (emitted unit.old inputs.now tick) }
+    ensures counts { steps.new ≡ steps.old + 1 }
+{
+    match unit.step(inputs, tick, steps) {
+        Emit::Nothing => {}
+        emitted => *emit = emitted,
+    }
+}
+
 /// What a block sees of its bit inputs.
 fn seen(inputs: &[Mux; 5], buses: &Buses) -> [bool; 5]
     ensures { result ≡ map (seen_on buses.now.bus) inputs.now }
@@ -97,4 +173,28 @@ fn seen(inputs: &[Mux; 5], buses: &Buses) -> [bool; 5]
         bits[i] = mux.seen(buses.selected(mux.select()));
     }
     bits
+}
+
+/// What a block sees of its bit inputs, whose delay lines take what they select.
+fn take(inputs: &mut [Mux; 5], buses: &Buses) -> [bool; 5]
+    ensures sees { result ≡ map (seen_on buses.now.bus) inputs.old }
+    ensures left { inputs.new ≡ map (input_after buses.now.bus) inputs.old }
+{
+    let mut bits = [false; 5];
+    for (i, mux) in inputs.iter_mut().enumerate() {
+        bits[i] = mux.take(buses.selected(mux.select()));
+    }
+    bits
+}
+
+/// Room for what a block of any kind but PCAP sees.
+pub(crate) fn nothing_seen() -> Inputs
+    ensures { IsNarrow result }
+{
+    Inputs {
+        bits: [false; 5],
+        positions: [0; 3],
+        words: [0; 4],
+        bus: [0; 32],
+    }
 }

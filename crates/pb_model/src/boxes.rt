@@ -1,10 +1,11 @@
-ghost use Rattle.std.specs.Prelude.{◌≡◌, ◌++◌, ◌≤◌, IfOk, replicate};
+ghost use Rattle.std.specs.Prelude.{◌≡◌, true, ◌++◌, ◌≤◌, IfOk, replicate};
 ghost use Rattle.pb_names.specs.declared.lut.TheConstants as lut;
 ghost use Rattle.pb_names.specs.declared.pcap.TheConstants as pcap;
 ghost use Rattle.pb_model.specs.Tick.{opening_block, opening_selections, opening_box};
 ghost use Rattle.std.specs.Borrow.{sem};
 ghost use Rattle.pb_buses.specs.Delay.{wired, opening_input};
 ghost use Rattle.pb_model.specs.Kept.{opening, Agrees};
+ghost use Rattle.pb_model.specs.Arming.{is_capture_idle};
 ghost use Rattle.pb_model.specs.Lending.{LendsBuses};
 
 use crate::blocks::Block;
@@ -43,6 +44,7 @@ impl BoxState {
     pub fn new(alloc: Global) -> Result<BoxState, OutOfMemory>
         ensures kept { IfOk result (λ b. b ≡ opening) }
         ensures agrees { IfOk result (λ b. Agrees b opening_box) }
+        ensures idle { IfOk result (λ b. is_capture_idle b.blocks ≡ true) }
     {
         let mut blocks = Vec::new(alloc);
         for kind in lut::BLOCK..pcap::BLOCK + 1 {

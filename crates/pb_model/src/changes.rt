@@ -8,6 +8,10 @@ use pb_fields::{Role, Slot};
 pub enum Change {
     /// The setting takes this raw value.
     Set { slot: Slot, raw: u64 },
+    /// PCAP is armed, with room for so many records.
+    Arm { room: u64 },
+    /// PCAP becomes idle.
+    Disarm,
 }
 
 /// Whether the blocks take a value of a field of this role.

@@ -68,8 +68,8 @@ pub fn changes_and_puts_keep_agreement()
 {}
 
 /// What is set in a box stays set: a change that gives a slot a value leaves the box such that to give the
-/// value again changes nothing, and so it stays by changes of other slots, table writes, ticks and what the
-/// stimulus puts. A box opens with the defaults of the catalogue.
+/// value again changes nothing, and so it stays by changes of other slots, arming, disarming, table
+/// writes, ticks and what the stimulus puts. A box opens with the defaults of the catalogue.
 pub fn what_is_set_stays()
     ensures set { (box : Box) (slot : Slot) (raw : ℕ) →
         IsWhole box.stands.blocks box.stands.settings → IsKept slot → HasValue (changed_box box (changes.Set slot raw)) slot raw }
@@ -79,6 +79,12 @@ pub fn what_is_set_stays()
     ensures tables { (box : Box) (slot : Slot) (raw number : ℕ) (words : List ℕ) →
         IsWhole box.stands.blocks box.stands.settings → IsKept slot →
         HasValue box slot raw → HasValue (box_with_table box number words) slot raw }
+    ensures arming { (box : Box) (slot : Slot) (raw room : ℕ) →
+        IsWhole box.stands.blocks box.stands.settings → IsKept slot →
+        HasValue box slot raw → HasValue (changed_box box (changes.Arm room)) slot raw }
+    ensures disarming { (box : Box) (slot : Slot) (raw : ℕ) →
+        IsWhole box.stands.blocks box.stands.settings → IsKept slot →
+        HasValue box slot raw → HasValue (changed_box box changes.Disarm) slot raw }
     ensures ticks { (box : Box) (slot : Slot) (raw : ℕ) →
         IsWhole box.stands.blocks box.stands.settings → IsKept slot → HasValue box slot raw → HasValue (tick box) slot raw }
     ensures puts { (box : Box) (slot : Slot) (raw : ℕ) (bus : Bus) → HasValue box slot raw → HasValue (with_bus box bus) slot raw }

@@ -3,12 +3,12 @@
 //! `specs/Tables.antt` what a table write leaves.
 #![tactic(auto)]
 
+mod arming;
 mod blocks;
 mod boxes;
 mod changes;
 mod laws;
 mod places;
-mod rests;
 mod settings;
 mod shows;
 mod tables;
@@ -23,6 +23,5 @@ pub use laws::{
     what_is_set_stays,
 };
 pub use places::{MACHINES, machine};
-pub use rests::Resting;
 pub use ticks::tick;
 pub use units::Unit;

@@ -4,6 +4,7 @@ ghost use Rattle.pb_fields.specs.Values.{IsRaw};
 ghost use Rattle.pb_buses.specs.Delay.{wired, delayed, opening_input};
 ghost use Rattle.pb_model.specs.Changes.{IsChange, IsSet};
 ghost use Rattle.pb_model.specs.Tick.{kind_of as kind_of_block};
+ghost use Rattle.pb_model.specs.Arming.{is_capture_idle, idle_by};
 ghost use Rattle.pb_model.specs.Settings.{is_pos_mux, position_place, with_value, with_setting, changed, read_of};
 
 use crate::blocks::Block;
@@ -15,13 +16,17 @@ use pb_fields::{FieldType, Role, Slot, field_type};
 use pb_names::{ITSELF, bits, pcomp, seq};
 
 impl BoxState {
-    /// Takes a change.
+    /// Takes a change. PCAP is armed only where it is idle, and disarmed only where it isn't.
+    #[tactic(auto, using(crate::proofs::ArmLemmas::set_idle))]
     pub fn change(&mut self, change: Change)
-        requires { IsChange change }
-        ensures { self.new ≡ changed self.old change }
+        requires { IsChange self.old.blocks change }
+        ensures left { self.new ≡ changed self.old change }
+        ensures idle { is_capture_idle self.new.blocks ≡ idle_by change (is_capture_idle self.old.blocks) }
     {
         match change {
             Change::Set { slot, raw } => self.set(slot, raw),
+            Change::Arm { room } => self.arm(room),
+            Change::Disarm => self.disarm(),
         }
     }
 

@@ -3,6 +3,7 @@ ghost use Rattle.pb_names.specs.declared.seq.TheConstants as seq;
 ghost use Rattle.pb_tables.specs.Computed.{written, answer_of};
 ghost use Rattle.pb_model.specs.Units.{words_of};
 ghost use Rattle.pb_model.specs.Tick.{kind_of};
+ghost use Rattle.pb_model.specs.Arming.{is_capture_idle};
 ghost use Rattle.pb_model.specs.Tables.{table_of, block_left, table_left};
 
 use crate::blocks::Block;
@@ -38,6 +39,7 @@ impl BoxState {
         ensures told { result ≡ answer_of (written (table_of self.old.blocks instance) append base64 body.now) }
         ensures left { self.new ≡ table_left self.old instance (written (table_of self.old.blocks instance) append base64 body.now) }
         ensures same { OnErr result (self.new ≡ self.old) }
+        ensures idle { is_capture_idle self.new.blocks ≡ is_capture_idle self.old.blocks }
     {
         let place = machine(seq::BLOCK, instance);
         let block = &mut self.blocks[place as usize];

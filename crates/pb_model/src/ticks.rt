@@ -1,11 +1,12 @@
-ghost use Rattle.std.specs.Prelude.{◌≡◌, ℕ, ◌+◌, ◌-◌, ◌^◌, ◌<◌, map, length};
+ghost use Rattle.std.specs.Prelude.{◌≡◌, ℕ, true, ◌+◌, ◌-◌, ◌^◌, ◌<◌, map, length};
 ghost use Rattle.pb_buses.specs.declared.Emit.TheVariants as emits;
 ghost use Rattle.pb_buses.specs.Buses.{IsUnchangedAt};
 ghost use Rattle.pb_model.specs.Tick.{Box, IsInputEntry, block_after, emitted_by, emitted_of, handed_on};
 ghost use Rattle.pb_model.specs.Tick as definition;
+ghost use Rattle.pb_model.specs.Arming.{is_capture_idle, idle_after};
 ghost use Rattle.pb_model.specs.Kept.{Agrees, kept_after, stands_of};
 
-use crate::blocks::Block;
+use crate::blocks::{Block, nothing_seen};
 use crate::boxes::BoxState;
 use crate::shows::{show_bits, show_positions, show_values};
 use pb_buses::{Buses, Emit};
@@ -23,6 +24,8 @@ pub fn tick<L: Ledger>(state: &mut BoxState, steps: &mut Steps<L>) -> Emit
         IsUnchangedAt state.new.buses entry (state.old.tick + 1) }
     ensures kept { state.new ≡ kept_after state.old }
     ensures emits { result ≡ emitted_of (stands_of state.old) }
+    ensures idle { is_capture_idle state.new.blocks ≡ idle_after result (is_capture_idle state.old.blocks) }
+    ensures quiet { is_capture_idle state.old.blocks ≡ true → result ≡ emits.Nothing }
     ensures counts { steps.new ≡ steps.old + 35 }
 {
     let emit = step_blocks(&mut state.blocks, &state.buses, state.tick, steps);
@@ -56,11 +59,13 @@ fn step_blocks<L: Ledger>(
     ensures counts { steps.new ≡ steps.old + length blocks.old.items }
 {
     let mut emit = Emit::Nothing;
+    let mut inputs = nothing_seen();
     for block in blocks.iter_mut() {
-        match block.step(buses, tick, steps) {
-            Emit::Nothing => {}
-            emitted => emit = emitted,
+        if !block.sees_all() {
+            block.advance(buses, &mut inputs, tick, steps);
+            continue;
         }
+        block.step_capture(buses, tick, steps, &mut emit);
     }
     emit
 }

@@ -1,15 +1,15 @@
-ghost use Rattle.std.specs.Prelude.{◌≡◌, ◌≤◌, ◌<◌, ◌^◌, IfOk};
+ghost use Rattle.std.specs.Prelude.{◌≡◌, ◌≤◌, ◌<◌, ◌+◌, ◌^◌, true, IfOk};
 ghost use Rattle.pb_names.specs.declared.lut.TheConstants as lut;
 ghost use Rattle.pb_names.specs.declared.pcap.TheConstants as pcap;
 ghost use Rattle.pb_names.specs.declared.seq.TheConstants as seq;
 ghost use Rattle.pb_tables.specs.Computed.{written, answer_of};
 ghost use Rattle.pb_model.specs.Tables.{unit_left};
-ghost use Rattle.pb_model.specs.Units.{opening_unit, place_of, IsRead, value_read, words_of, bit_outputs, position_outputs};
+ghost use Rattle.pb_model.specs.Units.{opening_unit, place_of, next, is_quiet, IsRead, value_read, words_of, bit_outputs, position_outputs};
 
-use crate::rests::Resting;
 use pb_buses::{Emit, Inputs, Machine, Outputs};
 use pb_logic::{Clock, Counter, Div, Lut, Srgate};
 use pb_names::{clock, counter, div, lut, pcap, pcomp, pulse, seq, srgate};
+use pb_pcap::Pcap;
 use pb_pcomp::Pcomp;
 use pb_pulse::Pulse;
 use pb_seq::Seq;
@@ -29,7 +29,7 @@ pub enum Unit {
     Clock(Clock),
     Seq(Seq),
     Pcomp(Pcomp),
-    Pcap(Resting),
+    Pcap(Pcap),
 }
 
 impl Unit {
@@ -49,7 +49,7 @@ impl Unit {
             clock::BLOCK => Unit::Clock(Clock::new()),
             seq::BLOCK => Unit::Seq(Seq::new(alloc)?),
             pcomp::BLOCK => Unit::Pcomp(Pcomp::new()),
-            _ => Unit::Pcap(Resting::new()),
+            _ => Unit::Pcap(Pcap::new()),
         };
         Ok(unit)
     }
@@ -71,6 +71,43 @@ impl Unit {
         }
     }
 
+    /// Whether a step under these inputs emits nothing. It is no step.
+    pub fn is_quiet(&self, inputs: &Inputs) -> bool
+        ensures { result ≡ is_quiet self.now inputs.now }
+    {
+        match self {
+            Unit::Pcap(block) => block.is_quiet(inputs),
+            Unit::Lut(_)
+            | Unit::Srgate(_)
+            | Unit::Div(_)
+            | Unit::Pulse(_)
+            | Unit::Counter(_)
+            | Unit::Clock(_)
+            | Unit::Seq(_)
+            | Unit::Pcomp(_) => true,
+        }
+    }
+
+    /// One tick of the unit under inputs under which it emits nothing.
+    pub fn advance<L: Ledger>(&mut self, inputs: &Inputs, tick: u64, steps: &mut Steps<L>)
+        requires quiet { is_quiet self.old inputs.now ≡ true }
+        requires tick { tick < 2 ^ 62 }
+        ensures next { self.new ≡ next self.old inputs.now tick }
+        ensures counts { steps.new ≡ steps.old + 1 }
+    {
+        match self {
+            Unit::Lut(block) => block.advance(inputs, tick, steps),
+            Unit::Srgate(block) => block.advance(inputs, tick, steps),
+            Unit::Div(block) => block.advance(inputs, tick, steps),
+            Unit::Pulse(block) => block.advance(inputs, tick, steps),
+            Unit::Counter(block) => block.advance(inputs, tick, steps),
+            Unit::Clock(block) => block.advance(inputs, tick, steps),
+            Unit::Seq(block) => block.advance(inputs, tick, steps),
+            Unit::Pcomp(block) => block.advance(inputs, tick, steps),
+            Unit::Pcap(block) => block.advance(inputs, tick, steps),
+        }
+    }
+
     /// The value of a read field, by its place in the block.
     pub fn read(&self, field: u8) -> u64
         requires { IsRead self.now field }
@@ -82,8 +119,8 @@ impl Unit {
             Unit::Pulse(block) => block.read(field),
             Unit::Seq(block) => block.read(field),
             Unit::Pcomp(block) => block.read(field),
-            Unit::Pcap(block) => block.read(field),
-            Unit::Lut(_) | Unit::Srgate(_) | Unit::Counter(_) | Unit::Clock(_) => unreachable!(),
+            Unit::Lut(_) | Unit::Srgate(_) | Unit::Counter(_) | Unit::Clock(_) | Unit::Pcap(_) =>
+                unreachable!(),
         }
     }
 
@@ -173,6 +210,34 @@ impl Machine for Unit {
             Unit::Seq(block) => block.step(inputs, tick, steps),
             Unit::Pcomp(block) => block.step(inputs, tick, steps),
             Unit::Pcap(block) => block.step(inputs, tick, steps),
+        }
+    }
+
+    fn horizon<L: Ledger>(&self, inputs: &Inputs, tick: u64, steps: &mut Steps<L>) -> Option<u128> {
+        match self {
+            Unit::Lut(block) => block.horizon(inputs, tick, steps),
+            Unit::Srgate(block) => block.horizon(inputs, tick, steps),
+            Unit::Div(block) => block.horizon(inputs, tick, steps),
+            Unit::Pulse(block) => block.horizon(inputs, tick, steps),
+            Unit::Counter(block) => block.horizon(inputs, tick, steps),
+            Unit::Clock(block) => block.horizon(inputs, tick, steps),
+            Unit::Seq(block) => block.horizon(inputs, tick, steps),
+            Unit::Pcomp(block) => block.horizon(inputs, tick, steps),
+            Unit::Pcap(block) => block.horizon(inputs, tick, steps),
+        }
+    }
+
+    fn coast<L: Ledger>(&mut self, inputs: &Inputs, tick: u64, ticks: u64, steps: &mut Steps<L>) {
+        match self {
+            Unit::Lut(block) => block.coast(inputs, tick, ticks, steps),
+            Unit::Srgate(block) => block.coast(inputs, tick, ticks, steps),
+            Unit::Div(block) => block.coast(inputs, tick, ticks, steps),
+            Unit::Pulse(block) => block.coast(inputs, tick, ticks, steps),
+            Unit::Counter(block) => block.coast(inputs, tick, ticks, steps),
+            Unit::Clock(block) => block.coast(inputs, tick, ticks, steps),
+            Unit::Seq(block) => block.coast(inputs, tick, ticks, steps),
+            Unit::Pcomp(block) => block.coast(inputs, tick, ticks, steps),
+            Unit::Pcap(block) => block.coast(inputs, tick, ticks, steps),
         }
     }
 

@@ -1,3 +1,5 @@
+pub mod DeadlineLemmas
 pub mod EachLemmas
 pub mod FieldLemmas
 pub mod PackingLemmas
+pub mod QuietLemmas

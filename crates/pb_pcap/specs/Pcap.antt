@@ -1,5 +1,5 @@
 -- PCAP: position capture. It samples the positions while its gate is open, and hands out a record at each trigger.
-use Rattle.std.specs.Prelude.{ℕ, ◌+◌, ◌-◌, ◌%◌, ◌^◌, ◌<◌, ◌≡◌, ◌==◌, ℤ, pos, Bool, true, false, not, ◌&&◌, List, replicate, slice_index_or, Option, Some, None, if◌then◌else◌, refl}
+use Rattle.std.specs.Prelude.{ℕ, ◌+◌, ◌-◌, ◌%◌, ◌^◌, ◌<◌, ◌≡◌, ◌==◌, ℤ, pos, Bool, true, false, not, ◌&&◌, ◌||◌, List, replicate, slice_index_or, Option, Some, None, if◌then◌else◌, refl}
 use Rattle.std.specs.Option.{option_map}
 use Rattle.std.specs.Int.{int_min, int_max}
 use Rattle.pb_names.specs.declared.pcap.TheConstants as names
@@ -217,6 +217,14 @@ abbrev pub emits_record : Capture → Inputs → Bool
 emits_record capture inputs =
     is_running_mode capture.registers.mode && enable inputs
     && is_triggered capture.settings capture.registers inputs && not (capture.registers.room == 0)
+
+-- nothing is emitted out of a run, and in one where ENABLE is 1 and TRIG has no edge
+abbrev pub is_quiet_in : PcapMode → PcapSettings → PcapRegisters → Inputs → Bool
+is_quiet_in mode settings registers inputs =
+    not (is_running_mode mode) || (enable inputs && not (is_triggered settings registers inputs))
+
+abbrev pub is_quiet : Capture → Inputs → Bool
+is_quiet capture inputs = is_quiet_in capture.registers.mode capture.settings capture.registers inputs
 
 -- Its running counts are the time stamp, the count of samples, their sums, and TS_END while GATE is 1.
 abbrev pub uncounted_samples : Inputs → PcapSamples → PcapSamples

@@ -4,6 +4,7 @@
 //! `specs/Records.antt`.
 #![tactic(auto)]
 
+mod deadlines;
 pub mod entries;
 mod fields;
 mod laws;

@@ -1,4 +1,5 @@
-ghost use Rattle.std.specs.Prelude.{◌≡◌, ℕ, true, false};
+ghost use Rattle.std.specs.Prelude.{◌≡◌, ◌+◌, ◌^◌, ◌<◌, ◌≤◌, ℕ, true, false};
+ghost use Rattle.pb_buses.specs.declared.Emit.TheVariants as emits;
 ghost use Rattle.pb_buses.specs.Rules.{is_record};
 
 use crate::registers::{PcapMode, PcapRegisters, Turn};
@@ -80,6 +81,28 @@ impl Pcap {
             && self.registers.is_triggered(&self.settings, inputs)
             && self.registers.room != 0
     }
+
+    /// Whether a step under these inputs emits nothing. It is no step.
+    #[tactic(auto, using(crate::proofs::QuietLemmas::quiet_emits))]
+    pub fn is_quiet(&self, inputs: &Inputs) -> bool
+        ensures value { result ≡ definition.is_quiet self.now inputs.now }
+        ensures step { (tick : ℕ) → result ≡ true → definition.rules.emitted self.now inputs.now tick ≡ emits.Nothing }
+    {
+        !self.registers.mode.is_running()
+            || (inputs.bits[pcap::ENABLE as usize]
+                && !self.registers.is_triggered(&self.settings, inputs))
+    }
+
+    /// One tick of the block under inputs under which it emits nothing.
+    pub fn advance<L: Ledger>(&mut self, inputs: &Inputs, tick: u64, steps: &mut Steps<L>)
+        requires { definition.is_quiet self.old inputs.now ≡ true }
+        ensures next { self.new ≡ definition.rules.next self.old inputs.now tick }
+        ensures counts { steps.new ≡ steps.old + 1 }
+    {
+        steps.tick();
+        self.registers.pass(&self.settings, inputs);
+        self.registers.trig_before = inputs.bits[pcap::TRIG as usize];
+    }
 }
 
 impl Machine for Pcap {
@@ -102,6 +125,23 @@ impl Machine for Pcap {
             Turn::Over(condition) => Emit::Completed(condition),
             Turn::Due => self.registers.hand_out(inputs),
         }
+    }
+
+    fn horizon<L: Ledger>(&self, inputs: &Inputs, tick: u64, steps: &mut Steps<L>) -> Option<u128> {
+        steps.tick();
+        if self.registers.is_steady(inputs) {
+            None
+        } else {
+            Some(0)
+        }
+    }
+
+    fn coast<L: Ledger>(&mut self, inputs: &Inputs, tick: u64, ticks: u64, steps: &mut Steps<L>) {
+        steps.tick();
+        if ticks == 0 {
+            return;
+        }
+        self.registers.coast(inputs, ticks);
     }
 
     fn outputs(&self) -> Outputs {

@@ -1,4 +1,5 @@
-ghost use Rattle.std.specs.Prelude.{◌≡◌, ◌≢◌, ◌+◌, ◌<◌, ◌≤◌, List, [], ◌++◌, length, OnOk, OnErr, IsOk};
+ghost use Rattle.std.specs.Prelude.{◌≡◌, ◌≢◌, ◌+◌, ◌*◌, ◌<◌, ◌≤◌, List, [], ◌++◌, length, OnOk, OnErr, IsOk};
+ghost use Rattle.pb_pcap.specs.Fields.{size_of};
 ghost use Rattle.pb_pcap.specs.Records.{record_bytes};
 
 use crate::layouts::Layout;
@@ -50,7 +51,8 @@ impl Records {
 
     /// The layout of the records.
     pub fn layout(&self) -> &Layout
-        ensures { result.now ≡ self.now.layout }
+        ensures value { result.now ≡ self.now.layout }
+        ensures some { 0 < size_of result.now }
     {
         &self.layout
     }
@@ -78,7 +80,8 @@ impl Records {
 
     /// Their bytes.
     pub fn bytes(&self) -> &[u8]
-        ensures { result.now ≡ self.now.bytes }
+        ensures value { result.now ≡ self.now.bytes }
+        ensures room { self.now.count * size_of self.now.layout ≤ length result.now }
     {
         self.held.as_slice()
     }

@@ -1,4 +1,4 @@
-ghost use Rattle.std.specs.Prelude.{◌≡◌, ◌≢◌};
+ghost use Rattle.std.specs.Prelude.{◌≡◌, ◌≢◌, true};
 
 use crate::samples::PcapSamples;
 use crate::settings::PcapSettings;
@@ -197,5 +197,14 @@ impl PcapRegisters {
             }
             PcapMode::Running => self.run(settings, inputs),
         }
+    }
+
+    /// A tick at which nothing is emitted, but for the kept input.
+    #[tactic(auto, using(crate::proofs::QuietLemmas::quiet_turn))]
+    pub(crate) fn pass(&mut self, settings: &PcapSettings, inputs: &Inputs)
+        requires { definition.is_quiet_in self.old.mode settings.now self.old inputs.now ≡ true }
+        ensures { self.new ≡ definition.captured self.old.mode settings.now self.old inputs.now }
+    {
+        let _turn = self.capture(settings, inputs);
     }
 }

@@ -59,7 +59,7 @@ fn add_each(sums: &mut [i64; 32], bus: &[i32; 32])
     }
 }
 
-fn keep_least(least: &mut [i32; 32], bus: &[i32; 32])
+pub(crate) fn keep_least(least: &mut [i32; 32], bus: &[i32; 32])
     ensures { least.new ≡ each int_min least.old bus.now }
 {
     for i in 0..bus.len() {
@@ -67,7 +67,7 @@ fn keep_least(least: &mut [i32; 32], bus: &[i32; 32])
     }
 }
 
-fn keep_greatest(greatest: &mut [i32; 32], bus: &[i32; 32])
+pub(crate) fn keep_greatest(greatest: &mut [i32; 32], bus: &[i32; 32])
     ensures { greatest.new ≡ each int_max greatest.old bus.now }
 {
     for i in 0..bus.len() {

@@ -1,5 +1,4 @@
 ghost use Rattle.std.specs.Prelude.{◌≡◌, ◌<◌, ◌≤◌, ◌+◌, ◌^◌};
-ghost use Rattle.pb_buses.specs.Rules.{IsHorizon, AreCalm, after};
 
 use crate::registers::{PcompRegisters, PcompState, Sign};
 use crate::settings::{Direction, PcompSettings, Reference};
@@ -70,33 +69,14 @@ impl Pcomp {
         }
     }
 
-    /// How many steps under these inputs are calm before the first that isn't; none where all are calm.
-    pub fn horizon<L: Ledger>(
-        &self,
-        inputs: &Inputs,
-        tick: u64,
-        steps: &mut Steps<L>,
-    ) -> Option<u128>
+    /// One tick of the block, which emits nothing.
+    pub fn advance<L: Ledger>(&mut self, inputs: &Inputs, tick: u64, steps: &mut Steps<L>)
         requires { tick < 2 ^ 62 }
-        ensures horizon { IsHorizon definition.rules inputs.now tick self.now result }
+        ensures next { self.new ≡ definition.rules.next self.old inputs.now tick }
         ensures counts { steps.new ≡ steps.old + 1 }
     {
         steps.tick();
-        if self.registers_after(inputs) == self.registers {
-            None
-        } else {
-            Some(0)
-        }
-    }
-
-    /// So many steps at once, all of them calm.
-    pub fn coast<L: Ledger>(&mut self, inputs: &Inputs, tick: u64, ticks: u64, steps: &mut Steps<L>)
-        requires calm { AreCalm definition.rules inputs.now tick ticks self.old }
-        requires end { tick + ticks ≤ 2 ^ 62 }
-        ensures left { self.new ≡ after definition.rules inputs.now tick ticks self.old }
-        ensures counts { steps.new ≡ steps.old + 1 }
-    {
-        steps.tick();
+        self.registers = self.registers_after(inputs);
     }
 
     /// The registers one tick later.
@@ -124,9 +104,21 @@ impl Machine for Pcomp {
     ghost with_field = { definition.with_field };
 
     fn step<L: Ledger>(&mut self, inputs: &Inputs, tick: u64, steps: &mut Steps<L>) -> Emit {
-        steps.tick();
-        self.registers = self.registers_after(inputs);
+        self.advance(inputs, tick, steps);
         Emit::Nothing
+    }
+
+    fn horizon<L: Ledger>(&self, inputs: &Inputs, tick: u64, steps: &mut Steps<L>) -> Option<u128> {
+        steps.tick();
+        if self.registers_after(inputs) == self.registers {
+            None
+        } else {
+            Some(0)
+        }
+    }
+
+    fn coast<L: Ledger>(&mut self, inputs: &Inputs, tick: u64, ticks: u64, steps: &mut Steps<L>) {
+        steps.tick();
     }
 
     fn outputs(&self) -> Outputs {

@@ -137,19 +137,3 @@ module _ (inputs : Inputs) (generator : Generator) where
       IsHorizon rules inputs tick generator None
   rests tick kept off empty low =
       forever tick (λ t from. next_disabled t kept off ∙ same_output [] false (sym empty) (sym low))
-
--- calm steps leave the block as it is
-rest_calm :
-    (inputs : Inputs) (tick n : ℕ) (generator : Generator) → AreCalm rules inputs tick (suc n) generator →
-    AreCalm rules inputs (tick + 1) n (next generator inputs tick)
-rest_calm inputs tick n generator calm k below =
-    let e : (tick + 1) + k ≡ tick + suc k = omega arith in
-    rw e (calm (suc k) (omega (arith, below)))
-
-pub coasted :
-    (inputs : Inputs) (tick n : ℕ) (generator : Generator) → AreCalm rules inputs tick n generator →
-    after rules inputs tick n generator ≡ generator
-coasted inputs tick zero generator calm = refl
-coasted inputs tick (suc n) generator calm =
-    let first : IsCalm rules inputs tick generator = rw add-zero at (calm 0 (omega arith)) in
-    coasted inputs (tick + 1) n (next generator inputs tick) (rest_calm inputs tick n generator calm) ∙ first.still

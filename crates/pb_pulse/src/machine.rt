@@ -1,5 +1,4 @@
 ghost use Rattle.std.specs.Prelude.{◌≡◌, ◌<◌, ◌≤◌, ◌+◌, ◌^◌, IfOk};
-ghost use Rattle.pb_buses.specs.Rules.{after, AreCalm, IsHorizon};
 
 use crate::queues::Queue;
 use crate::registers::PulseRegisters;
@@ -68,42 +67,20 @@ impl Pulse {
         }
     }
 
-    /// For how many steps under these inputs, from a tick on, nothing changes; none where nothing ever does.
-    pub fn horizon<L: Ledger>(
-        &self,
-        inputs: &Inputs,
-        tick: u64,
-        steps: &mut Steps<L>,
-    ) -> Option<u128>
+    /// One tick of the block, which emits nothing.
+    pub fn advance<L: Ledger>(&mut self, inputs: &Inputs, tick: u64, steps: &mut Steps<L>)
         requires { tick < 2 ^ 62 }
-        ensures horizon { IsHorizon definition.rules inputs.now tick self.now result }
+        ensures next { self.new ≡ definition.rules.next self.old inputs.now tick }
         ensures counts { steps.new ≡ steps.old + 1 }
     {
         steps.tick();
-        let enable = inputs.bits[pulse::ENABLE as usize];
-        if enable != self.registers.enable_before {
-            return Some(0);
+        if inputs.bits[pulse::ENABLE as usize] {
+            self.run(inputs, tick);
+        } else {
+            self.stop();
         }
-        if inputs.bits[pulse::TRIG as usize] != self.registers.trig_before {
-            return Some(0);
-        }
-        if enable {
-            return self.queue.still(tick, self.registers.out);
-        }
-        if self.registers.out || !self.queue.is_empty() {
-            return Some(0);
-        }
-        None
-    }
-
-    /// So many steps under these inputs at once, none of which changes anything.
-    pub fn coast<L: Ledger>(&mut self, inputs: &Inputs, tick: u64, ticks: u64, steps: &mut Steps<L>)
-        requires calm { AreCalm definition.rules inputs.now tick ticks self.old }
-        requires end { tick + ticks ≤ 2 ^ 62 }
-        ensures after { self.new ≡ after definition.rules inputs.now tick ticks self.old }
-        ensures counts { steps.new ≡ steps.old + 1 }
-    {
-        steps.tick();
+        self.registers.enable_before = inputs.bits[pulse::ENABLE as usize];
+        self.registers.trig_before = inputs.bits[pulse::TRIG as usize];
     }
 
     /// An edge of TRIG asks for a train. Gives what DROPPED becomes.
@@ -162,15 +139,30 @@ impl Machine for Pulse {
     ghost with_field = { definition.with_field };
 
     fn step<L: Ledger>(&mut self, inputs: &Inputs, tick: u64, steps: &mut Steps<L>) -> Emit {
-        steps.tick();
-        if inputs.bits[pulse::ENABLE as usize] {
-            self.run(inputs, tick);
-        } else {
-            self.stop();
-        }
-        self.registers.enable_before = inputs.bits[pulse::ENABLE as usize];
-        self.registers.trig_before = inputs.bits[pulse::TRIG as usize];
+        self.advance(inputs, tick, steps);
         Emit::Nothing
+    }
+
+    fn horizon<L: Ledger>(&self, inputs: &Inputs, tick: u64, steps: &mut Steps<L>) -> Option<u128> {
+        steps.tick();
+        let enable = inputs.bits[pulse::ENABLE as usize];
+        if enable != self.registers.enable_before {
+            return Some(0);
+        }
+        if inputs.bits[pulse::TRIG as usize] != self.registers.trig_before {
+            return Some(0);
+        }
+        if enable {
+            return self.queue.still(tick, self.registers.out);
+        }
+        if self.registers.out || !self.queue.is_empty() {
+            return Some(0);
+        }
+        None
+    }
+
+    fn coast<L: Ledger>(&mut self, inputs: &Inputs, tick: u64, ticks: u64, steps: &mut Steps<L>) {
+        steps.tick();
     }
 
     fn outputs(&self) -> Outputs {

@@ -35,8 +35,19 @@ pub(crate) fn list(text: &mut Text, value: &[u8]) -> Result<(), OutOfMemory>
     text.append(b"\n")
 }
 
+/// Adds the line of one of several pairs of values.
+pub fn list_pair(text: &mut Text, first: &[u8], second: &[u8]) -> Result<(), OutOfMemory>
+    ensures { OnOk result (text.new ≡ text.old ++ listed (first.now ++ codes " " ++ second.now)) }
+{
+    text.append(b"!")?;
+    text.append(first)?;
+    text.append(b" ")?;
+    text.append(second)?;
+    text.append(b"\n")
+}
+
 /// Adds the point that ends several values.
-pub(crate) fn end_list(text: &mut Text) -> Result<(), OutOfMemory>
+pub fn end_list(text: &mut Text) -> Result<(), OutOfMemory>
     ensures { OnOk result (text.new ≡ text.old ++ codes ".\n") }
 {
     text.append(b".\n")

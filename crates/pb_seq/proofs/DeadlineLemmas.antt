@@ -6,6 +6,7 @@ use Rattle.std.proofs.Math.Nat.{mod-eq_of_lt, mod_self}
 use Rattle.pb_buses.specs.declared.inputs.Inputs.{Inputs}
 use Rattle.pb_buses.specs.Rules.{after, IsCalm, AreCalm, IsHorizon}
 use Rattle.pb_buses.proofs.RuleLemmas.{never, until}
+use Rattle.pb_buses.proofs.CoastLemmas.{first_calm, rest_calm}
 use Rattle.pb_tables.specs.declared.seq_rows.SeqRow.{SeqRow}
 use Rattle.pb_seq.specs.declared.settings.SeqSettings.{SeqSettings}
 use Rattle.pb_seq.specs.declared.registers.SeqRegisters.{SeqRegisters}
@@ -364,14 +365,6 @@ module _ (inputs : Inputs) where
       until rules inputs Left none_left one_fewer (b.registers.ticks_left - 1) t b (record { counts = c; left = one })
 
   -- Many calm ticks.
-  calm_later : (m t : ℕ) (b : Sequencer) → AreCalm rules inputs t (suc m) b → AreCalm rules inputs (t + 1) m (later b)
-  calm_later m t b calm k low =
-      let c = calm (suc k) (omega (arith, low)) in
-      record { quiet = refl; still = c.still }
-
-  calm_first : (m t : ℕ) (b : Sequencer) → AreCalm rules inputs t (suc m) b → IsStill b
-  calm_first m t b calm = (calm 0 (omega arith)).still
-
   counted :
       (m t : ℕ) (b : Sequencer) → is_in_phase b.registers.state ≡ true → AreCalm rules inputs t m b →
       after rules inputs t m b ≡ timed b (b.registers.ticks_left - m)
@@ -380,14 +373,14 @@ module _ (inputs : Inputs) where
       let none : b.registers.ticks_left ≡ b.registers.ticks_left - 0 = omega arith in
       ap put none
   counted (suc m) t b h calm =
-      let still : IsStill b = calm_first m t b calm in
+      let still : IsStill b = (first_calm rules inputs m t b calm).still in
       let c : Counts b = still_counts b h still in
       let down = goes_down b c (still_left b c still) in
       let inside : Sequencer → Bool = λ y. is_in_phase y.registers.state in
       let put : Sequencer → Sequencer = λ y. timed y (y.registers.ticks_left - m) in
       let at_time : ℕ → Sequencer = λ k. timed b k in
       let fewer : (b.registers.ticks_left - 1) - m ≡ b.registers.ticks_left - suc m = omega arith in
-      counted m (t + 1) (later b) (ap inside down ∙ h) (calm_later m t b calm) ∙ ap put down ∙ ap at_time fewer
+      counted m (t + 1) (later b) (ap inside down ∙ h) (rest_calm rules inputs m t b calm) ∙ ap put down ∙ ap at_time fewer
 
   coasted_by :
       (m t : ℕ) (b : Sequencer) (v : Bool) → is_in_phase b.registers.state ≡ v → AreCalm rules inputs t m b →
@@ -398,7 +391,7 @@ module _ (inputs : Inputs) where
       rw (some, e) (sym (counted (suc m) t b e calm))
   coasted_by (suc m) t b false e calm =
       let some : suc m == 0 ≡ false = ne_eqb (suc m) 0 (λ p. omega (arith, p)) in
-      rw (some, e) (sym (rests m t b e (calm_first m t b calm)))
+      rw (some, e) (sym (rests m t b e (first_calm rules inputs m t b calm).still))
 
   pub coasts :
       (m t : ℕ) (b : Sequencer) → AreCalm rules inputs t m b →

@@ -1,7 +1,6 @@
 ghost use Rattle.std.specs.Prelude.{◌≡◌, ◌<◌, ◌≤◌, ◌+◌, ◌^◌, IfOk, OnOk, IfErr, OnErr};
 ghost use Rattle.pb_tables.specs.Tables.{IsWritten, IsRefused};
 ghost use Rattle.pb_tables.specs.Computed.{written, answer_of};
-ghost use Rattle.pb_buses.specs.Rules.{IsHorizon, AreCalm, after};
 
 use crate::registers::{SeqRegisters, SeqState};
 use crate::settings::SeqSettings;
@@ -104,40 +103,14 @@ impl Seq {
         }
     }
 
-    /// How many ticks from this one on are calm under these inputs, before the first that isn't. A tick is calm
-    /// where all but the ticks left stays as it is; None where all are.
-    pub fn horizon<L: Ledger>(
-        &self,
-        inputs: &Inputs,
-        tick: u64,
-        steps: &mut Steps<L>,
-    ) -> Option<u128>
+    /// One tick of the block, which emits nothing.
+    pub fn advance<L: Ledger>(&mut self, inputs: &Inputs, tick: u64, steps: &mut Steps<L>)
         requires { tick < 2 ^ 62 }
-        ensures horizon { IsHorizon definition.rules inputs.now tick self.now result }
+        ensures next { self.new ≡ definition.rules.next self.old inputs.now tick }
         ensures counts { steps.new ≡ steps.old + 1 }
     {
         steps.tick();
-        if !self.registers.is_still(&self.settings, &self.rows, inputs) {
-            return Some(0);
-        }
-        if self.registers.is_in_phase() {
-            Some(u128::from(self.registers.ticks_left.saturating_sub(1)))
-        } else {
-            None
-        }
-    }
-
-    /// So many calm ticks at once.
-    pub fn coast<L: Ledger>(&mut self, inputs: &Inputs, tick: u64, ticks: u64, steps: &mut Steps<L>)
-        requires calm { AreCalm definition.rules inputs.now tick ticks self.old }
-        requires time { tick + ticks ≤ 2 ^ 62 }
-        ensures coasts { self.new ≡ after definition.rules inputs.now tick ticks self.old }
-        ensures counts { steps.new ≡ steps.old + 1 }
-    {
-        steps.tick();
-        self.registers = self
-            .registers
-            .coasted(&self.settings, &self.rows, inputs, ticks);
+        self.registers = self.registers.after(&self.settings, &self.rows, inputs);
     }
 }
 
@@ -153,9 +126,27 @@ impl Machine for Seq {
     ghost with_field = { definition.with_field };
 
     fn step<L: Ledger>(&mut self, inputs: &Inputs, tick: u64, steps: &mut Steps<L>) -> Emit {
-        steps.tick();
-        self.registers = self.registers.after(&self.settings, &self.rows, inputs);
+        self.advance(inputs, tick, steps);
         Emit::Nothing
+    }
+
+    fn horizon<L: Ledger>(&self, inputs: &Inputs, tick: u64, steps: &mut Steps<L>) -> Option<u128> {
+        steps.tick();
+        if !self.registers.is_still(&self.settings, &self.rows, inputs) {
+            return Some(0);
+        }
+        if self.registers.is_in_phase() {
+            Some(u128::from(self.registers.ticks_left.saturating_sub(1)))
+        } else {
+            None
+        }
+    }
+
+    fn coast<L: Ledger>(&mut self, inputs: &Inputs, tick: u64, ticks: u64, steps: &mut Steps<L>) {
+        steps.tick();
+        self.registers = self
+            .registers
+            .coasted(&self.settings, &self.rows, inputs, ticks);
     }
 
     fn outputs(&self) -> Outputs {

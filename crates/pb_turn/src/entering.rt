@@ -12,7 +12,10 @@ use std::hint::spin_loop;
 use std::sync::Wait;
 
 // So often a thread tries, each time after twice the wait of the last, before it sleeps.
-const TRIES: u32 = 8;
+const TRIES: u32 = 5;
+
+// The first wait, in turns of a loop. Threads that look more often slow the one that holds the turn.
+const FIRST_WAIT: u32 = 32;
 
 /// What `try_enter` gives: the turn, or the pass again where another holds the turn.
 pub enum Entered<'a, V: Stands> {
@@ -56,7 +59,7 @@ impl<V: Stands> Turn<V> {
                 Entered::Busy(back) => waiting = back,
             }
             if tried < TRIES {
-                spin(1 << tried);
+                spin(FIRST_WAIT << tried);
                 tried += 1;
             } else {
                 self.table.shared.park(rt, TURN, TAKEN as u32);

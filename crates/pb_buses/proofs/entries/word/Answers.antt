@@ -1,5 +1,4 @@
-use Rattle.std.proofs.Common.{◌≡◌, ◌+◌, length, take, refl, sym, ◌∙◌, ap, rules}
-use Rattle.std.proofs.Math.Seq.{take-length}
+use Rattle.std.proofs.Common.{refl}
 use Rattle.pb_buses.specs.Buses.{number}
 use Rattle.pb_buses.proofs.WordLemmas.{word-more, word-fits}
 use Rattle.pb_buses.proofs.entries.word.Goals as goal

@@ -1,8 +1,10 @@
-use Rattle.std.proofs.Common.{◌+◌, length, map, ap, ◌∙◌, arith}
+use Rattle.std.proofs.Common.{◌+◌, length, map, sym, ap, ◌∙◌, arith}
 use Rattle.std.specs.List.{flat_map}
 use Rattle.pb_model.specs.Tick.{kind_of, bits_of, positions_of}
 use Rattle.pb_model.specs.Kept.{Kept, kept_after, with_bits, with_positions}
 use Rattle.pb_model.proofs.TickLemmas.{kinds_after, many_bits, many_positions, are_35, pieces, agrees_along}
+use Rattle.pb_model.specs.Arming.{is_capture_idle, idle_after}
+use Rattle.pb_model.proofs.ArmLemmas.{ticked_idle, ticked_quiet}
 use Rattle.pb_model.proofs.InputLemmas.{inputs_along}
 use Rattle.pb_model.proofs.ticks.tick.Goals as goal
 
@@ -99,3 +101,24 @@ returns-clause-inputs g c =
 pub returns-clause-counts : goal.returns-clause-counts
 returns-clause-counts g c =
     omega (arith, c.step_blocks-emit.ensures.counts, are_35 c.state.inside.blocks.items c.state.invariant.kinds)
+
+pub returns-clause-idle : goal.returns-clause-idle
+returns-clause-idle g c =
+    let blocks = c.state.inside.blocks.items in
+    let bus = c.state.inside.buses.bus in
+    let tick = c.state.inside.tick in
+    let kinds = kinds_after _ _ _ _ c.state.invariant.kinds c.step_blocks-emit.ensures.blocks in
+    ap is_capture_idle c.step_blocks-emit.ensures.blocks
+    ∙ (ticked_idle bus tick blocks c.state.invariant.kinds (sym (ap (map kind_of) c.step_blocks-emit.ensures.blocks) ∙ kinds)
+    ∙ (ap (λ e. idle_after e (is_capture_idle blocks)) (sym c.step_blocks-emit.ensures.emits)
+    ∙ ap (λ (k : Kept). idle_after c.step_blocks-emit.result (is_capture_idle k.blocks)) c.state.view_is))
+
+pub returns-clause-quiet : goal.returns-clause-quiet
+returns-clause-quiet g c idle =
+    let blocks = c.state.inside.blocks.items in
+    let bus = c.state.inside.buses.bus in
+    let tick = c.state.inside.tick in
+    c.step_blocks-emit.ensures.emits
+    ∙ ticked_quiet bus tick blocks c.state.invariant.kinds
+    (sym (ap (map kind_of) c.step_blocks-emit.ensures.blocks) ∙ kinds_after _ _ _ _ c.state.invariant.kinds c.step_blocks-emit.ensures.blocks)
+    (ap (λ (k : Kept). is_capture_idle k.blocks) c.state.view_is ∙ idle)

@@ -12,9 +12,9 @@ keep_text-requires-clause-short c =
     kept_short _ c.args.slot c.args.value.now c.in_ok-raw.raw c.in_ok-raw.ensures.given
 
 pub returns-clause-allowed : goal.returns-clause-allowed
-returns-clause-allowed c =
+returns-clause-allowed c = λ blocks.
     let takes : is_assignable c.args.slot ≡ true = given_assignable _ c.args.slot c.args.value.now c.in_ok-raw.raw c.in_ok-raw.ensures.given in
     let range : CanBe (target c.args.slot) c.in_ok-raw.raw = c.in_ok-raw.ensures.range in
     let P : Slot → Type 0 = λ s. IsSlot s in
     let there : IsSlot (target c.args.slot) = subst P c.target.ensures.target c.target.ensures.slot in
-    change_allowed c.args.slot c.in_ok-raw.raw c.change_of.result c.change_of.ensures c.requires there takes range
+    change_allowed blocks c.args.slot c.in_ok-raw.raw c.change_of.result c.change_of.ensures c.requires there takes range

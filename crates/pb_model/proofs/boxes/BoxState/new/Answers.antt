@@ -3,6 +3,8 @@ use Rattle.std.specs.List.{flat_map, range_with_len}
 use Rattle.pb_fields.specs.Places.{count_of}
 use Rattle.pb_model.specs.Tick.{opening_block}
 use Rattle.pb_model.proofs.TickLemmas.{all_opened, more_opened, all_done, is_opening, opening_whole, opening_along}
+use Rattle.pb_model.specs.Arming.{is_capture_idle}
+use Rattle.pb_model.proofs.ArmLemmas.{opening_idle}
 use Rattle.pb_model.proofs.boxes.BoxState.new.Goals as goal
 
 pub loop-kind-init : goal.loop-kind-init
@@ -26,3 +28,8 @@ returns-clause-agrees c =
     opening_along _
     (is_opening c.new.result c.loop-kind.blocks.items c.new.ensures
     (all_done c.loop-kind.blocks.items c.loop-kind.kind c.loop-kind-test.false c.loop-kind.invariant))
+
+pub returns-clause-idle : goal.returns-clause-idle
+returns-clause-idle c =
+    ap is_capture_idle (all_done c.loop-kind.blocks.items c.loop-kind.kind c.loop-kind-test.false c.loop-kind.invariant)
+    ∙ opening_idle

@@ -6,6 +6,8 @@ use Rattle.pb_model.specs.Units.{words_of}
 use Rattle.pb_model.specs.Tick.{kind_of}
 use Rattle.pb_model.specs.Kept.{Kept}
 use Rattle.pb_model.specs.Tables.{table_of, block_left, table_left}
+use Rattle.pb_model.specs.Arming.{is_capture_idle}
+use Rattle.pb_model.proofs.ArmLemmas.{left_idle}
 use Rattle.pb_model.proofs.TableLemmas.{two_sequencers, sequencer_inside, sequencer_there, table_is, left_stays, set_table, refused_same}
 use Rattle.pb_model.proofs.boxes.BoxState.write_table.Goals as goal
 
@@ -59,4 +61,9 @@ returns c =
     (c.write.ensures.left ∙ ap (λ b. block_left b (written (words_of block.unit) append base64 body)) c.index_mut-block.ensures.value)
     ∙ (ap (λ ws. table_left kept number (written ws append base64 body)) words
     ∙ ap (λ (k : Kept). table_left k number (written (table_of k.blocks number) append base64 body)) c.self.view_is) in
-    record { told = told; left = left; same = refused_same c.write.result _ _ _ number told left }
+    record {
+      told = told;
+      left = left;
+      same = refused_same c.write.result _ _ _ number told left;
+      idle = ap (λ (k : Kept). is_capture_idle k.blocks) left ∙ left_idle c.args.self.now number (written (table_of c.args.self.now.blocks number) append base64 body);
+    }

@@ -1,0 +1,10 @@
+use Rattle.std.proofs.Common.{refl}
+use Rattle.std.specs.Fmt.{digits}
+use Rattle.pb_fields.specs.Catalogue.{catalogue}
+use Rattle.pb_fields.specs.Entries.{pos_entries}
+use Rattle.pb_encode.specs.Encoding.{entry_name}
+use Rattle.pb_encode.proofs.laws.acquisitions_by_example.Goals as goal
+
+pub returns : goal.returns
+unfolding digits catalogue pos_entries entry_name
+returns c = refl

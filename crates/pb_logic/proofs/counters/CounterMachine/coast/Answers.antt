@@ -1,0 +1,8 @@
+use Rattle.pb_buses.proofs.CoastLemmas.{unmoved}
+use Rattle.pb_logic.specs.Counter as definition
+use Rattle.pb_logic.proofs.DeadlineLemmas.{counter_has_none}
+use Rattle.pb_logic.proofs.counters.CounterMachine.coast.Goals as goal
+
+pub returns-clause-left : goal.returns-clause-left
+returns-clause-left g c =
+    unmoved definition.rules counter_has_none c.args.inputs.now c.args.ticks c.args.tick c.args.self.now c.requires.calm
