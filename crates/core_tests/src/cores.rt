@@ -96,6 +96,7 @@ fn play_from_the_start<L: Ledger>(
 {
     let mut steps: Steps<L> = Steps::new(blank);
     let mut core = opened(alloc, stimulus(alloc)?)?;
+    let _opened = told(&mut steps, &mut core, &Event::OpenControl { id: 1 })?;
     play(rt, alloc, &mut steps, &mut core, moves)?;
     Ok(core.now())
 }

@@ -20,14 +20,14 @@ left_there state kept to told e h = h
 pub told_session : (state : CoreState) (event : Event) (id : ℕ) (told : Answer) → session_of event ≡ Some id → IsTold state event told → told ≡ answer state event
 told_session state (events.Line session text) id told e h = h
 told_session state (events.Bad session refusal) id told e h = h
-told_session state (events.Advance to) id told e h = cc
+told_session state event id told e h = cc
 
 -- and leaves one core
 pub left_session : (state : CoreState) (kept : KeptCore) (event : Event) (id : ℕ) (told : Answer) → session_of event ≡ Some id →
     Agrees kept (after_told state event told) → Agrees kept (after state event)
 left_session state kept (events.Line session text) id told e h = h
 left_session state kept (events.Bad session refusal) id told e h = h
-left_session state kept (events.Advance to) id told e h = cc
+left_session state kept event id told e h = cc
 
 -- and so of a result
 

@@ -5,3 +5,4 @@ pub mod Plays
 pub mod Run
 pub mod Script
 pub mod Steps
+pub mod Waiting

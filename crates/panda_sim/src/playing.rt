@@ -1,10 +1,13 @@
-ghost use Rattle.std.specs.Prelude.{◌≡◌, ℕ, ◌<◌, ◌≤◌, ◌∷◌, [], List, map, ◌^◌, All, Some, IfOk, OnOk, IsTrue};
+ghost use Rattle.std.specs.Prelude.{◌≡◌, ℕ, ◌<◌, ◌≤◌, ◌∷◌, [], List, map, ◌^◌, All, true, Option, Some, None, IfOk, OnOk, IsTrue};
 ghost use Rattle.pb_ports.specs.Ports.{Rose};
 ghost use Rattle.pb_grammar.specs.Feeding.{Fed, Completed, HasWhole};
 ghost use Rattle.pb_core.specs.Kept.{Agrees};
 ghost use Rattle.pb_core.specs.Answer.{CoreState, opening, CanHappen, answer, after, after_all};
 ghost use Rattle.pb_core.specs.declared.Event.TheVariants as events;
-ghost use Rattle.panda_sim.specs.Output.{written, sections, session_of, sent, events_of, events_from, waits_after};
+ghost use Rattle.panda_sim.specs.Output.{written, sections, session_of, sent, left_waiting, events_of, events_from, waits_after};
+ghost use Rattle.panda_sim.specs.Waiting.{Waits};
+ghost use Rattle.panda_sim.specs.Script.{Timed, Command};
+ghost use Rattle.pb_grammar.specs.Grammar.{IsText};
 ghost use Rattle.panda_sim.specs.Plays.{Plays, is_at_target};
 ghost use Rattle.panda_sim.specs.Steps.{IsStep, step_line};
 ghost use Rattle.panda_sim.specs.KeptScript.{script_output};
@@ -50,6 +53,8 @@ pub(crate) fn play<K: Sink, L: Ledger>(
 struct Player {
     alloc: Global,
     core: Core,
+    /// Whether session 1 is open.
+    is_open: bool,
     /// The bytes of a command that isn't complete yet.
     assembler: Assembler,
     /// The bytes of the last command.
@@ -62,13 +67,14 @@ impl Player {
     /// At the beginning of a script with this stimulus.
     fn new(alloc: Global, stimulus: Stimulus) -> Result<Player, OutOfMemory>
         ensures core { IfOk result (λ player. Agrees player.core (opening stimulus)) }
-        ensures fed { IfOk result (λ player. Fed player.assembler []) }
+        ensures waits { IfOk result (λ player. Waits player.is_open player.assembler None) }
     {
         let assembler = Assembler::new(alloc)?;
         match Core::new(alloc, stimulus) {
             Ok(core) => Ok(Player {
                 alloc,
                 core,
+                is_open: false,
                 assembler,
                 command: Text::new(alloc),
                 section: Text::new(alloc),
@@ -84,9 +90,9 @@ impl Player {
         steps: &mut Steps<L>,
     ) -> Played
         requires steps { All IsStep moments.now }
-        requires fed { Fed self.old.assembler [] }
+        requires waits { Waits self.old.is_open self.old.assembler None }
         ensures plays { (state : CoreState) → Agrees self.old.core state →
-            Plays (sections state (events_from [] (map step_line moments.now))) result (K.held output.old) (K.held output.new) }
+            Plays (sections state (events_from None (map step_line moments.now))) result (K.held output.old) (K.held output.new) }
         ensures cause { result ≡ Played.WriteFault → Rose (K.faults output.old) (K.faults output.new) }
         ensures count { K.faults output.old ≤ K.faults output.new }
     {
@@ -99,7 +105,7 @@ impl Player {
         Played::Ok
     }
 
-    /// Plays one step: a line of the session, or the end.
+    /// Plays one step: a line of the session, which opens with its first, or the end.
     fn play_step<K: Sink, L: Ledger>(
         &mut self,
         moment: &Step<'_>,
@@ -107,21 +113,21 @@ impl Player {
         steps: &mut Steps<L>,
     ) -> Played
         requires { IsStep moment.now }
-        ensures plays { (state : CoreState) → Agrees self.old.core state → (waiting : List ℕ) → Fed self.old.assembler waiting →
+        ensures plays { (state : CoreState) → Agrees self.old.core state → (waiting : Option (List ℕ)) → Waits self.old.is_open self.old.assembler waiting →
             Plays (sections state (events_of waiting (step_line moment.now))) result (K.held output.old) (K.held output.new) }
-        ensures core { result ≡ Played.Ok → (state : CoreState) → Agrees self.old.core state → (waiting : List ℕ) → Fed self.old.assembler waiting →
+        ensures core { result ≡ Played.Ok → (state : CoreState) → Agrees self.old.core state → (waiting : Option (List ℕ)) → Waits self.old.is_open self.old.assembler waiting →
             Agrees self.new.core (after_all state (events_of waiting (step_line moment.now))) }
-        ensures fed { result ≡ Played.Ok → (waiting : List ℕ) → Fed self.old.assembler waiting →
-            Fed self.new.assembler (waits_after waiting (step_line moment.now)) }
+        ensures waits { result ≡ Played.Ok → (waiting : Option (List ℕ)) → Waits self.old.is_open self.old.assembler waiting →
+            Waits self.new.is_open self.new.assembler (waits_after waiting (step_line moment.now)) }
         ensures cause { result ≡ Played.WriteFault → Rose (K.faults output.old) (K.faults output.new) }
         ensures count { K.faults output.old ≤ K.faults output.new }
     {
         match moment.text {
             Some(text) => {
-                if feed_line(&mut self.assembler, text) {
-                    self.play_command(moment.tick, output, steps)
+                if self.is_open {
+                    self.play_line(moment.tick, text, output, steps)
                 } else {
-                    Played::Ok
+                    self.play_first_line(moment.tick, text, output, steps)
                 }
             }
             None => {
@@ -132,6 +138,79 @@ impl Player {
                 }
             }
         }
+    }
+
+    /// Plays a line of the session that is open.
+    fn play_line<K: Sink, L: Ledger>(
+        &mut self,
+        tick: u64,
+        text: &[u8],
+        output: &mut K,
+        steps: &mut Steps<L>,
+    ) -> Played
+        requires small { tick < 2 ^ 62 }
+        requires text { IsText text.now }
+        ensures plays { (state : CoreState) → Agrees self.old.core state → (waiting : List ℕ) → Fed self.old.assembler waiting →
+            Plays (sections state (events_of (Some waiting) (Timed tick (Command 1 text.now)))) result (K.held output.old) (K.held output.new) }
+        ensures core { result ≡ Played.Ok → (state : CoreState) → Agrees self.old.core state → (waiting : List ℕ) → Fed self.old.assembler waiting →
+            Agrees self.new.core (after_all state (events_of (Some waiting) (Timed tick (Command 1 text.now)))) }
+        ensures fed { result ≡ Played.Ok → (waiting : List ℕ) → Fed self.old.assembler waiting → Fed self.new.assembler (left_waiting waiting text.now) }
+        ensures open { self.new.is_open ≡ self.old.is_open }
+        ensures cause { result ≡ Played.WriteFault → Rose (K.faults output.old) (K.faults output.new) }
+        ensures count { K.faults output.old ≤ K.faults output.new }
+    {
+        if feed_line(&mut self.assembler, text) {
+            self.play_command(tick, output, steps)
+        } else {
+            Played::Ok
+        }
+    }
+
+    /// Plays the first line of the session: it opens at this tick.
+    fn play_first_line<K: Sink, L: Ledger>(
+        &mut self,
+        tick: u64,
+        text: &[u8],
+        output: &mut K,
+        steps: &mut Steps<L>,
+    ) -> Played
+        requires small { tick < 2 ^ 62 }
+        requires text { IsText text.now }
+        ensures plays { (state : CoreState) → Agrees self.old.core state → Fed self.old.assembler [] →
+            Plays (sections state (events_of None (Timed tick (Command 1 text.now)))) result (K.held output.old) (K.held output.new) }
+        ensures core { result ≡ Played.Ok → (state : CoreState) → Agrees self.old.core state → Fed self.old.assembler [] →
+            Agrees self.new.core (after_all state (events_of None (Timed tick (Command 1 text.now)))) }
+        ensures fed { result ≡ Played.Ok → Fed self.old.assembler [] → Fed self.new.assembler (left_waiting [] text.now) }
+        ensures open { result ≡ Played.Ok → self.new.is_open ≡ true }
+        ensures cause { result ≡ Played.WriteFault → Rose (K.faults output.old) (K.faults output.new) }
+        ensures count { K.faults output.old ≤ K.faults output.new }
+    {
+        if !self.open_session(tick, steps) {
+            return Played::OutOfMemory;
+        }
+        if feed_line(&mut self.assembler, text) {
+            self.send_command(output, steps)
+        } else {
+            Played::Ok
+        }
+    }
+
+    /// The box goes to this tick, and the session opens. The answer is false where memory is wanting for a record on
+    /// the way.
+    fn open_session<L: Ledger>(&mut self, tick: u64, steps: &mut Steps<L>) -> bool
+        requires { tick < 2 ^ 62 }
+        ensures core { IsTrue result → (state : CoreState) → Agrees self.old.core state →
+            Agrees self.new.core (after (after state (events.Advance tick)) (events.OpenControl 1)) }
+        ensures assembler { self.new.assembler ≡ self.old.assembler }
+        ensures open { IsTrue result → self.new.is_open ≡ true }
+    {
+        if !self.advance(tick, steps) {
+            return false;
+        }
+        self.is_open = true;
+        self.core
+            .apply(&Event::OpenControl { id: 1 }, steps)
+            .is_ok()
     }
 
     /// Plays the command that is whole: the box goes to this tick, and then the session sends it.
@@ -148,6 +227,7 @@ impl Player {
         ensures core { result ≡ Played.Ok → (state : CoreState) → Agrees self.old.core state → (bytes : List ℕ) → Completed self.old.assembler bytes →
             Agrees self.new.core (after (after state (events.Advance tick)) (sent 1 bytes)) }
         ensures assembler { self.new.assembler ≡ self.old.assembler }
+        ensures open { self.new.is_open ≡ self.old.is_open }
         ensures cause { result ≡ Played.WriteFault → Rose (K.faults output.old) (K.faults output.new) }
         ensures count { K.faults output.old ≤ K.faults output.new }
     {
@@ -163,6 +243,7 @@ impl Player {
         requires { to < 2 ^ 62 }
         ensures core { IsTrue result → (state : CoreState) → Agrees self.old.core state → Agrees self.new.core (after state (events.Advance to)) }
         ensures assembler { self.new.assembler ≡ self.old.assembler }
+        ensures open { self.new.is_open ≡ self.old.is_open }
     {
         match self.core.apply(&Event::Advance { to }, steps) {
             Ok(answer) => is_at_target(&answer),
@@ -178,6 +259,7 @@ impl Player {
         ensures core { result ≡ Played.Ok → (state : CoreState) → Agrees self.old.core state → (bytes : List ℕ) → Completed self.old.assembler bytes →
             Agrees self.new.core (after state (sent 1 bytes)) }
         ensures assembler { self.new.assembler ≡ self.old.assembler }
+        ensures open { self.new.is_open ≡ self.old.is_open }
         ensures cause { result ≡ Played.WriteFault → Rose (K.faults output.old) (K.faults output.new) }
         ensures count { K.faults output.old ≤ K.faults output.new }
     {
@@ -207,6 +289,7 @@ impl Player {
         ensures ok { (state : CoreState) → Agrees self.old.core state → IfOk result (λ told. told ≡ answer state event.now) }
         ensures core { (state : CoreState) → Agrees self.old.core state → OnOk result (Agrees self.new.core (after state event.now)) }
         ensures assembler { self.new.assembler ≡ self.old.assembler }
+        ensures open { self.new.is_open ≡ self.old.is_open }
     {
         self.core.apply(event, steps)
     }

@@ -69,16 +69,20 @@ pub record Share : Type 0 where
   pub cut : List (List Record)
   pub condition : Condition
 
+-- pieces of records, put together
 abbrev pub joined : List (List Record) → List Record
 joined cut = flat_map (λ rows. rows) cut
 
+-- all its records, and the end that it had
 pub record IsWhole (share : Share) : Type 0 where
   pub all_records : joined share.cut ≡ share.acquisition.records
   pub over : share.acquisition.condition ≡ Some share.condition
 
+-- the bytes of pieces of its records
 abbrev pub raw_pieces : Acquisition → List (List Record) → List (List ℕ)
 raw_pieces acquisition cut = map (records_bytes acquisition.layout) cut
 
+-- as it is handed out: the header where it is wanted, the pieces, and the end
 abbrev pub share_bytes : Options → Share → List ℕ
 share_bytes options share =
     encoded options share.acquisition.layout (raw_pieces share.acquisition share.cut) (length share.acquisition.records) share.condition
@@ -93,6 +97,7 @@ abbrev pub next_of : List Acquisition → Option Acquisition → Option Acquisit
 next_of [] running = running
 next_of (acquisition ∷ others) running = Some acquisition
 
+-- a reader that was given the header, if it is wanted, and so many records
 abbrev pub reader_within : Options → ℕ → ℕ → Reader
 reader_within options place given = record (reader_from options place) { header_is_owed = false; given = given }
 
@@ -106,7 +111,7 @@ pub data HasFront (options : Options) (place : ℕ) (next : Option Acquisition) 
       bytes ≡ front_bytes options acquisition cut → HasFront options place next reader bytes
 
 -- What a reader was handed that began behind so many acquisitions: those that came then, whole, and a front of the next.
--- Of one alone it is a whole one exactly where the reader is at its end.
+-- A reader of one alone has one of them whole once it is at its end, and none before.
 pub record IsGiven (options : Options) (before : ℕ) (reader : Option Reader) (completed : List Acquisition) (running : Option Acquisition) (bytes : List ℕ) : Type 0 where
   pub earlier : List Acquisition
   pub shares : List Share

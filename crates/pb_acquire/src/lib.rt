@@ -17,4 +17,3 @@ pub use laws::{
     readers_are_given_whole_acquisitions, readers_by_example, records_are_added, rooms_by_example,
 };
 pub use readers::{Piece, Reader, Taken};
-pub use storing::Completed;

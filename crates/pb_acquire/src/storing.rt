@@ -11,7 +11,7 @@ use std::marker::Model;
 
 /// An acquisition that is over and still held.
 #[derive(Drop)]
-pub struct Completed {
+pub(crate) struct Completed {
     /// How many acquisitions came before it.
     pub before: u64,
     pub records: Records,

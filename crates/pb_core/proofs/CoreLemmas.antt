@@ -1,9 +1,9 @@
 -- One tick, the ticks that are left, and what commands leave.
-use Rattle.std.proofs.Common.{◌≡◌, ℕ, ℤ, zero, suc, ◌+◌, ◌-◌, ◌<◌, ◌≤◌, max, true, List, take, Option, Some, None, Result, Ok, Err, IfOk, IfSome, sym, ap, subst, inr, refl, ◌∙◌, arith}
+use Rattle.std.proofs.Common.{◌≡◌, ℕ, ℤ, zero, suc, ◌+◌, ◌-◌, ◌<◌, ◌≤◌, max, Bool, true, List, take, Option, Some, None, Result, Ok, Err, IfOk, IfSome, sym, ap, subst, inr, refl, ◌∙◌, arith}
 use Rattle.pb_words.specs.declared.Refusal.{Refusal}
 use Rattle.pb_buses.specs.Buses.{IsUnchangedAt}
 use Rattle.pb_stim.specs.declared.Row.{Row}
-use Rattle.pb_grammar.specs.Grammar.{Said}
+use Rattle.pb_grammar.specs.Grammar.{Said, Table}
 use Rattle.pb_model.specs.declared.Change.{Change}
 use Rattle.pb_model.specs.declared.Change.TheVariants as changes
 use Rattle.pb_model.specs.declared.Block.{Block}
@@ -27,9 +27,9 @@ use Rattle.pb_core.specs.Kept.{KeptCore, Agrees}
 use Rattle.pb_core.specs.Current.{IsCurrent, values_at, with_values}
 use Rattle.pb_words.specs.Refusing.{result_map}
 use Rattle.pb_core.specs.Assignments.{Given, Deed, gives, captures, with_deed, changed_by}
-use Rattle.pb_core.specs.Answer.{done, left_by, written_by, said_answer, advanced}
+use Rattle.pb_core.specs.Answer.{done, left_by, written_by, said_answer, line_answer, said_after, advanced}
 use Rattle.pb_core.specs.Helpers.{kept_changed_by, kept_given_by, kept_written_by, kept_with_deed, acquisitions_after, IsLeftBy}
-use Rattle.pb_core.specs.Writing.{Written}
+use Rattle.pb_core.specs.Writing.{Written, table_write}
 use Rattle.pb_core.proofs.LevelLemmas.{values_at-front, values_at-later}
 use Rattle.pb_core.proofs.PutLemmas.{values_agree}
 
@@ -125,7 +125,7 @@ pub stepped : (kept : KeptCore) (core : CoreState) (rows : List Row) (values : L
     ((b : Box) → boxes.Agrees kept.box b → (entry : ℕ) → IsInputEntry entry → IsUnchangedAt box.buses entry (kept.box.tick + 1)) →
     next ≡ with_values values box → emit ≡ emitted_of (stands_of kept.box) →
     ((all : AllAcquisitions) → acquire.Agrees kept.acquisitions all → acquire.Agrees acquired (taken emit all)) → Agrees kept core →
-    Agrees (record { rows = kept.rows; settings = kept.settings; box = next; acquisitions = acquired }) (ticked core)
+    Agrees (record kept { box = next; acquisitions = acquired }) (ticked core)
 stepped kept core rows values box next emit acquired at same levels agrees once is emits takes h =
     let shown : boxes.Agrees (with_values values box) (stimulated rows (model.tick core.box)) =
     values_agree rows values box (model.tick core.box) levels (agrees core.box h.box)
@@ -136,6 +136,7 @@ stepped kept core rows values box next emit acquired at same levels agrees once 
       box =
           subst (λ k. boxes.Agrees k (tick core.rows core.box)) (sym is)
           (subst (λ r. boxes.Agrees (with_values values box) (stimulated r (model.tick core.box))) (same ∙ h.rows) shown);
+      sessions = h.sessions;
       acquisitions =
           subst (λ e. acquire.Agrees acquired (taken e core.acquisitions)) (emits ∙ ap emitted_of h.box.stands)
           (takes core.acquisitions h.acquisitions);
@@ -160,14 +161,15 @@ deed_agrees kept core (gives new) acquired h a =
       rows = h.rows;
       settings = ap (λ (s : Settings). assigned s new.slot new.text new.raw) h.settings;
       box = changed_agrees (change_of new.slot new.raw) kept.box core.box h.box;
+      sessions = h.sessions;
       acquisitions = a;
     }
 deed_agrees kept core (captures clears) acquired h a =
-    record { rows = h.rows; settings = ap without_captures h.settings; box = h.box; acquisitions = a }
+    record { rows = h.rows; settings = ap without_captures h.settings; box = h.box; sessions = h.sessions; acquisitions = a }
 deed_agrees kept core (captures (arms layout)) acquired h a =
-    record { rows = h.rows; settings = h.settings; box = change_agrees kept.box core.box (changes.Arm (room_of layout)) h.box; acquisitions = a }
+    record { rows = h.rows; settings = h.settings; box = change_agrees kept.box core.box (changes.Arm (room_of layout)) h.box; sessions = h.sessions; acquisitions = a }
 deed_agrees kept core (captures disarms) acquired h a =
-    record { rows = h.rows; settings = h.settings; box = change_agrees kept.box core.box changes.Disarm h.box; acquisitions = a }
+    record { rows = h.rows; settings = h.settings; box = change_agrees kept.box core.box changes.Disarm h.box; sessions = h.sessions; acquisitions = a }
 
 pub left_agrees : (kept next : KeptCore) (core : CoreState) (r : Result Deed Refusal) → Agrees kept core → IsLeftBy kept next core.acquisitions r →
     Agrees next (left_by core r)
@@ -182,15 +184,26 @@ written_agrees kept core (Ok new) h =
       rows = h.rows;
       settings = h.settings;
       box = table_agrees kept.box core.box new.number new.words h.box;
+      sessions = h.sessions;
       acquisitions = h.acquisitions;
     }
 
+-- so what is kept after a table write is that of the core after it
+pub wrote : (kept next : KeptCore) (core : CoreState) (said : Said) (target : List ℕ) (append base64 : Bool) (body : List ℕ) →
+    said ≡ Table target append base64 body → next ≡ kept_written_by kept (table_write (stands_of kept.box) target append base64 body) →
+    Agrees kept core → Agrees next (said_after core said)
+wrote kept next core said target append base64 body e is h =
+    let r : Result Written Refusal = table_write core.box.stands target append base64 body in
+    let same : next ≡ kept_written_by kept r = is ∙ ap (λ b. kept_written_by kept (table_write b target append base64 body)) h.box.stands in
+    subst (λ s. Agrees next (said_after core s)) (sym e) (subst (λ k. Agrees k (written_by core r)) (sym same) (written_agrees kept core r h))
+
 -- what is told by what is kept is told by the core
 pub answers_agree : (kept : KeptCore) (core : CoreState) (said : Said) → Agrees kept core →
-    said_answer kept.settings (stands_of kept.box) core.acquisitions said ≡ said_answer core.settings core.box.stands core.acquisitions said
+    said_answer kept.settings (stands_of kept.box) kept.sessions core.acquisitions said ≡ line_answer core said
 answers_agree kept core said h =
-    ap (λ s. said_answer s (stands_of kept.box) core.acquisitions said) h.settings
-    ∙ ap (λ b. said_answer core.settings b core.acquisitions said) h.box.stands
+    ap (λ s. said_answer s (stands_of kept.box) kept.sessions core.acquisitions said) h.settings
+    ∙ (ap (λ b. said_answer core.settings b kept.sessions core.acquisitions said) h.box.stands
+    ∙ ap (λ x. said_answer core.settings core.box.stands x core.acquisitions said) h.sessions)
 
 -- a change leaves the tick
 pub tick_stays : (change : Change) (kept : Kept) → (kept_changed_by (Some change) kept).tick ≡ kept.tick

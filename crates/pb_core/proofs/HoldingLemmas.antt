@@ -45,6 +45,7 @@ use Rattle.pb_core.specs.Naming.{named_by}
 use Rattle.pb_core.specs.Assignments.{given, gives, captures, with_given, changed_by, named_given}
 use Rattle.pb_core.specs.Writing.{Written, table_write}
 use Rattle.pb_core.specs.Answer.{left_by, written_by, said_after, after, after_all}
+use Rattle.pb_core.specs.Sessions.{is_open}
 use Rattle.pb_core.specs.Holding.{HasSettings}
 use Rattle.pb_core.proofs.ReachedLemmas.{IsSlotThere, IsFound, found_by}
 
@@ -184,7 +185,7 @@ slot_holds core slot text (Err refusal) e s h = h
 slot_holds core slot text (Ok raw) e s h = assigned_holds core slot text raw e s h
 
 with_settings : CoreState → Settings → CoreState
-with_settings core settings = record { rows = core.rows; settings = settings; box = core.box; acquisitions = core.acquisitions }
+with_settings core settings = record core { settings = settings }
 
 quiet_given : (c : Bool) (core : CoreState) (slot : Slot) → c ≡ false →
     changed_by (if c then Some (changes.Set (target slot) 0) else None) core.box ≡ core.box
@@ -199,7 +200,7 @@ cleared_holds (slot ∷ slots) core all h =
     let one : Holds (with_given core (given slot (codes "No") 0)) =
     assigned_holds core slot (codes "No") 0 (all.0.told core.settings) all.0.in_catalogue h in
     let same : Holds (with_settings core (assigned core.settings slot (codes "No") 0)) =
-    subst (λ b. Holds (record { rows = core.rows; settings = assigned core.settings slot (codes "No") 0; box = b; acquisitions = core.acquisitions }))
+    subst (λ b. Holds (record core { settings = assigned core.settings slot (codes "No") 0; box = b }))
     (quiet_given (changes_box (attribute_at slot)) core slot all.0.quiet) one in
     cleared_holds slots (with_settings core (record { raws = slice_set core.settings.raws (place slot) 0; texts = core.settings.texts })) all.1
     (subst (λ s. Holds (with_settings core s)) (all.0.left core.settings) same)
@@ -267,9 +268,18 @@ ticks_hold (suc n) core h =
     let b : BoxHolds core.settings (tick core.rows core.box) = tick_holds core.settings core.rows core.box (record { whole = h.whole; has = h.has }) in
     ticks_hold n (ticked core) (record { reached = h.reached; whole = b.whole; has = b.has })
 
+line_holds : (is_there : Bool) (core : CoreState) (said : Said) → Holds core → Holds (if is_there then said_after core said else core)
+line_holds true core said h = said_holds core said h
+line_holds false core said h = h
+
 event_holds : (core : CoreState) (event : Event) → Holds core → Holds (after core event)
-event_holds core (events.Line id text) h = said_holds core (command_of text) h
+event_holds core (events.OpenControl id) h = record { reached = h.reached; whole = h.whole; has = h.has }
+event_holds core (events.Line id text) h = line_holds (is_open core.sessions id) core (command_of text) h
 event_holds core (events.Bad id refusal) h = h
+event_holds core (events.CloseControl id) h = record { reached = h.reached; whole = h.whole; has = h.has }
+event_holds core (events.OpenData id options) h = record { reached = h.reached; whole = h.whole; has = h.has }
+event_holds core (events.Take id) h = record { reached = h.reached; whole = h.whole; has = h.has }
+event_holds core (events.CloseData id) h = record { reached = h.reached; whole = h.whole; has = h.has }
 event_holds core (events.Advance to) h = ticks_hold (to - core.box.stands.tick) core h
 
 all_hold : (core : CoreState) (happened : List Event) → Holds core → Holds (after_all core happened)

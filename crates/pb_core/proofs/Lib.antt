@@ -7,6 +7,8 @@ pub mod LevelLemmas
 pub mod NamingLemmas
 pub mod PutLemmas
 pub mod ReachedLemmas
+pub mod SessionLemmas
+pub mod ClosedLemmas
 pub mod MuxLemmas
 pub mod MuxedLemmas
 pub mod TableLemmas

@@ -41,6 +41,7 @@ use Rattle.pb_core.specs.Naming.{named_by}
 use Rattle.pb_core.specs.Assignments.{given, gives, captures, with_given, changed_by, named_given}
 use Rattle.pb_core.specs.Writing.{Written, table_write}
 use Rattle.pb_core.specs.Answer.{left_by, said_after, after, after_all, written_by}
+use Rattle.pb_core.specs.Sessions.{is_open}
 use Rattle.pb_core.proofs.TableLemmas.{holds_table, holds_capture}
 use Rattle.pb_core.specs.Muxes.{IsMux, delay_of, MuxesAreSet}
 use Rattle.pb_core.proofs.MuxLemmas.{Holds, holds_first, holds_tick, holds_delayed, holds_own, holds_same, input_is, mux_type}
@@ -171,7 +172,7 @@ slot_left core slot text (Ok raw) e s h =
     }
 
 with_settings : CoreState → Settings → CoreState
-with_settings core settings = record { rows = core.rows; settings = settings; box = core.box; acquisitions = core.acquisitions }
+with_settings core settings = record core { settings = settings }
 
 quiet_given : (c : Bool) (core : CoreState) (slot : Slot) → c ≡ false →
     changed_by (if c then Some (changes.Set (target slot) 0) else None) core.box ≡ core.box
@@ -186,7 +187,7 @@ cleared_left (slot ∷ slots) core all h =
     let one : Stands (with_given core (given slot (codes "No") 0)) =
     slot_left core slot (codes "No") (Ok 0) (all.0.told core.settings) all.0.in_catalogue h in
     let same : Stands (with_settings core (assigned core.settings slot (codes "No") 0)) =
-    subst (λ b. Stands (record { rows = core.rows; settings = assigned core.settings slot (codes "No") 0; box = b; acquisitions = core.acquisitions }))
+    subst (λ b. Stands (record core { settings = assigned core.settings slot (codes "No") 0; box = b }))
     (quiet_given (changes_box (attribute_at slot)) core slot all.0.quiet) one in
     cleared_left slots (with_settings core (record { raws = slice_set core.settings.raws (place slot) 0; texts = core.settings.texts })) all.1
     (subst (λ s. Stands (with_settings core s)) (all.0.left core.settings) same)
@@ -229,9 +230,18 @@ ticks_left (suc n) core h =
     ticks_left n (ticked core)
     (record { reached = h.reached; held = holds_tick core.box.stands.bus core.box.stands.tick core.settings core.box.stands.blocks h.held })
 
+line_left : (is_there : Bool) (core : CoreState) (said : Said) → Stands core → Stands (if is_there then said_after core said else core)
+line_left true core said h = said_left core said h
+line_left false core said h = h
+
 event_left : (core : CoreState) (event : Event) → Stands core → Stands (after core event)
-event_left core (events.Line id text) h = said_left core (command_of text) h
+event_left core (events.OpenControl id) h = record { reached = h.reached; held = h.held }
+event_left core (events.Line id text) h = line_left (is_open core.sessions id) core (command_of text) h
 event_left core (events.Bad id refusal) h = h
+event_left core (events.CloseControl id) h = record { reached = h.reached; held = h.held }
+event_left core (events.OpenData id options) h = record { reached = h.reached; held = h.held }
+event_left core (events.Take id) h = record { reached = h.reached; held = h.held }
+event_left core (events.CloseData id) h = record { reached = h.reached; held = h.held }
 event_left core (events.Advance to) h = ticks_left (to - core.box.stands.tick) core h
 
 all_left : (core : CoreState) (happened : List Event) → Stands core → Stands (after_all core happened)

@@ -44,11 +44,11 @@ capture_by name (Some rest) other h a d s c o e =
     let with = λ (what : List ℕ) (q : rest ≡ what). h ∙ ap (λ r. codes "PCAP." ++ r) q in
     no_capture rest (λ q. a (with (codes "ARM") q)) (λ q. d (with (codes "DISARM") q)) (λ q. s (with (codes "STATUS") q)) (λ q. c (with (codes "CAPTURED") q)) (λ q. o (with (codes "COMPLETION") q))
 
-none_of : (name : List ℕ) → name ≢ codes "IDN" → name ≢ codes "BLOCKS" → name ≢ codes "POSITIONS" → name ≢ codes "CAPTURE" → name ≢ codes "PCAP.ARM" → name ≢ codes "PCAP.DISARM" → name ≢ codes "PCAP.STATUS" → name ≢ codes "PCAP.CAPTURED" → name ≢ codes "PCAP.COMPLETION" → ((target : List ℕ) → name ≢ codes "ENUMS." ++ target) → star_named name ≡ Err refusals.NoSuchField
-none_of name a b c k arm disarm status captured completion d =
+none_of : (name : List ℕ) → name ≢ codes "IDN" → name ≢ codes "WHO" → name ≢ codes "BLOCKS" → name ≢ codes "POSITIONS" → name ≢ codes "CAPTURE" → name ≢ codes "PCAP.ARM" → name ≢ codes "PCAP.DISARM" → name ≢ codes "PCAP.STATUS" → name ≢ codes "PCAP.CAPTURED" → name ≢ codes "PCAP.COMPLETION" → ((target : List ℕ) → name ≢ codes "ENUMS." ++ target) → star_named name ≡ Err refusals.NoSuchField
+none_of name a w b c k arm disarm status captured completion d =
     let other : option_map_or labels_named (after_front (codes "ENUMS.") name) (Err refusals.NoSuchField) ≡ Err refusals.NoSuchField =
     ap (λ found. option_map_or labels_named found (Err refusals.NoSuchField)) (no_front (codes "ENUMS.") name d) in
-    rw (is_same-false name (codes "IDN") a, is_same-false name (codes "BLOCKS") b, is_same-false name (codes "POSITIONS") c, is_same-false name (codes "CAPTURE") k)
+    rw (is_same-false name (codes "IDN") a, is_same-false name (codes "WHO") w, is_same-false name (codes "BLOCKS") b, is_same-false name (codes "POSITIONS") c, is_same-false name (codes "CAPTURE") k)
     (capture_by name (after_front (codes "PCAP.") name) (option_map_or labels_named (after_front (codes "ENUMS.") name) (Err refusals.NoSuchField))
     (after_front_follows (codes "PCAP.") name) arm disarm status captured completion other)
 
@@ -56,7 +56,7 @@ named_star : (name : List ℕ) → named_by (codes "*" ++ name) ≡ star_named n
 unfolding named_by
 named_star name = ap (λ found. option_map_or star_named found (block_named (codes "*" ++ name))) (after_front_of (codes "*") name)
 
-pub unknown_star : (settings : Settings) (box : Standing) (all : AllAcquisitions) (name value : List ℕ) → name ≢ codes "IDN" → name ≢ codes "BLOCKS" → name ≢ codes "POSITIONS" → name ≢ codes "CAPTURE" → name ≢ codes "PCAP.ARM" → name ≢ codes "PCAP.DISARM" → name ≢ codes "PCAP.STATUS" → name ≢ codes "PCAP.CAPTURED" → name ≢ codes "PCAP.COMPLETION" → ((target : List ℕ) → name ≢ codes "ENUMS." ++ target) → (query_reply settings box all (codes "*" ++ name) ≡ Err refusals.NoSuchField) × (assignment settings all (codes "*" ++ name) value ≡ Err refusals.NoSuchField)
-unknown_star settings box all name value a b c k arm disarm status captured completion d =
-    let e = named_star name ∙ none_of name a b c k arm disarm status captured completion d in
+pub unknown_star : (settings : Settings) (box : Standing) (sessions : List Bool) (all : AllAcquisitions) (name value : List ℕ) → name ≢ codes "IDN" → name ≢ codes "WHO" → name ≢ codes "BLOCKS" → name ≢ codes "POSITIONS" → name ≢ codes "CAPTURE" → name ≢ codes "PCAP.ARM" → name ≢ codes "PCAP.DISARM" → name ≢ codes "PCAP.STATUS" → name ≢ codes "PCAP.CAPTURED" → name ≢ codes "PCAP.COMPLETION" → ((target : List ℕ) → name ≢ codes "ENUMS." ++ target) → (query_reply settings box sessions all (codes "*" ++ name) ≡ Err refusals.NoSuchField) × (assignment settings all (codes "*" ++ name) value ≡ Err refusals.NoSuchField)
+unknown_star settings box sessions all name value a w b c k arm disarm status captured completion d =
+    let e = named_star name ∙ none_of name a w b c k arm disarm status captured completion d in
     (rw e refl, rw e refl)

@@ -22,6 +22,7 @@ use Rattle.pb_config.specs.Settings.{Settings}
 use Rattle.pb_config.specs.Capturing.{IsCapture, capture_slots, cleared, layout_of}
 use Rattle.pb_config.proofs.ClearingLemmas.{all_captures}
 use Rattle.pb_core.specs.Captures.{CaptureDeed, clears, arms, disarms, without_value, arming, disarming}
+use Rattle.pb_core.specs.Sessions.{is_open}
 use Rattle.pb_core.specs.Naming.{is_same, has_point, labels_named, capture_named, star_named, listing_named, block_named, named_by}
 use Rattle.pb_core.specs.Assignments.{given, gives, captures, named_given}
 use Rattle.pb_core.specs.Writing.{Written, table_write}
@@ -87,11 +88,12 @@ star_found : (name : List ℕ) → IsFound (star_named name)
 unfolding IsSlotThere
 star_found name =
     either (is_same name (codes "IDN")) _ _ (known names.Identity tt)
+    (either (is_same name (codes "WHO")) _ _ (known names.Sessions tt)
     (either (is_same name (codes "BLOCKS")) _ _ (known names.Blocks tt)
     (either (is_same name (codes "POSITIONS")) _ _ (known names.Positions tt)
     (either (is_same name (codes "CAPTURE")) _ _ (known names.Captures tt)
     (captured_found (after_front (codes "PCAP.") name) (option_map_or labels_named (after_front (codes "ENUMS.") name) (Err refusals.NoSuchField))
-    (labelled_found (after_front (codes "ENUMS.") name))))))
+    (labelled_found (after_front (codes "ENUMS.") name)))))))
 
 listing_found : (target : List ℕ) (front : Option (List ℕ)) → IsFound (option_map_or listing_named front (result_map names.Value (found_of target)))
 listing_found target None = value_found (found_of target) (λ slot e. (found_of-named target slot e).0)
@@ -150,10 +152,15 @@ ticks_left : (n : ℕ) (core : CoreState) → IsReached core.settings → IsReac
 ticks_left zero core h = h
 ticks_left (suc n) core h = ticks_left n (ticked core) h
 
+line_left : (is_there : Bool) (core : CoreState) (said : Said) → IsReached core.settings →
+    IsReached (if is_there then said_after core said else core).settings
+line_left true core said h = said_left core said h
+line_left false core said h = h
+
 event_left : (core : CoreState) (event : Event) → IsReached core.settings → IsReached (after core event).settings
-event_left core (events.Line id text) h = said_left core (command_of text) h
-event_left core (events.Bad id refusal) h = h
+event_left core (events.Line id text) h = line_left (is_open core.sessions id) core (command_of text) h
 event_left core (events.Advance to) h = ticks_left (to - core.box.stands.tick) core h
+event_left core event h = h
 
 all_left : (core : CoreState) (happened : List Event) → IsReached core.settings → IsReached (after_all core happened).settings
 all_left core [] h = h

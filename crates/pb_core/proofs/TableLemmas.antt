@@ -114,8 +114,7 @@ table_refused (Ok words) number refusal e = absurd (cc)
 table_refused (Err other) number refusal e = let same : refusal ≡ other = cc in ap answers.Error same
 
 pub table_kept : (core : KeptCore) (number : ℕ) (left : Result (List ℕ) Refusal) →
-    record { rows = core.rows; settings = core.settings; box = table_left core.box number left; acquisitions = core.acquisitions }
-    ≡ kept_written_by core (result_map (left_to number) left)
+    record core { box = table_left core.box number left } ≡ kept_written_by core (result_map (left_to number) left)
 table_kept core number (Ok words) = refl
 table_kept core number (Err refusal) = refl
 

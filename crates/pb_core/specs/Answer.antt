@@ -1,5 +1,5 @@
 -- One event: what it answers, and what it leaves.
-use Rattle.std.specs.Prelude.{◌≡◌, ℕ, ◌-◌, ◌<◌, ◌≤◌, ◌^◌, true, max, List, [], ◌∷◌, Result, Ok, Err, codes}
+use Rattle.std.specs.Prelude.{◌≡◌, ℕ, ◌-◌, ◌<◌, ◌≤◌, ◌^◌, Bool, true, false, if◌then◌else◌, max, List, [], ◌∷◌, Result, Ok, Err, codes}
 use Rattle.pb_words.specs.declared.Refusal.{Refusal}
 use Rattle.pb_words.specs.Refusals.{line_of}
 use Rattle.pb_grammar.specs.Grammar.{Said, Query, Assign, Table, Echo, Bad, command_of}
@@ -10,7 +10,10 @@ use Rattle.pb_core.specs.declared.events.Answer.{Answer}
 use Rattle.pb_core.specs.declared.events.Answer.TheVariants as answers
 use Rattle.pb_model.specs.Tick.{Standing}
 use Rattle.pb_config.specs.Settings.{Settings}
-pub use Rattle.pb_core.specs.Core.{CoreState, opening, with_box, ticks_of_core}
+pub use Rattle.pb_core.specs.Core.{CoreState, opening, with_box, with_sessions, with_acquisitions, ticks_of_core}
+use Rattle.pb_core.specs.Sessions.{IsSession, is_open, with_session, told_if_open, opened_answer, opened_by, taken_answer}
+use Rattle.pb_encode.specs.Choosing.{options_of}
+use Rattle.pb_acquire.specs.Taking.{closed, after_take}
 use Rattle.pb_core.specs.declared.events.Why.TheVariants as whys
 use Rattle.pb_acquire.specs.Acquisitions.{AllAcquisitions}
 use Rattle.pb_buses.specs.Rules.{is_record}
@@ -43,13 +46,13 @@ abbrev pub written_by : CoreState → Result Written Refusal → CoreState
 written_by core (Ok new) = with_written core new
 written_by core (Err refusal) = core
 
--- the answer to a command, by the settings, what stands in the box and the acquisitions
-abbrev pub said_answer : Settings → Standing → AllAcquisitions → Said → Answer
-said_answer settings box all (Query target) = replied (query_reply settings box all target)
-said_answer settings box all (Assign target value) = done (assignment settings all target value)
-said_answer settings box all (Table target append base64 body) = done (table_write box target append base64 body)
-said_answer settings box all (Echo text) = answers.Reply (value_reply text)
-said_answer settings box all (Bad refusal) = answers.Error refusal
+-- the answer to a command, by the settings, what stands in the box, the control sessions and the acquisitions
+abbrev pub said_answer : Settings → Standing → List Bool → AllAcquisitions → Said → Answer
+said_answer settings box sessions all (Query target) = replied (query_reply settings box sessions all target)
+said_answer settings box sessions all (Assign target value) = done (assignment settings all target value)
+said_answer settings box sessions all (Table target append base64 body) = done (table_write box target append base64 body)
+said_answer settings box sessions all (Echo text) = answers.Reply (value_reply text)
+said_answer settings box sessions all (Bad refusal) = answers.Error refusal
 
 -- the core after a command: only an assignment or a table write that is accepted changes it
 abbrev pub said_after : CoreState → Said → CoreState
@@ -66,29 +69,52 @@ said_after core (Bad refusal) = core
 abbrev pub advanced : CoreState → ℕ → CoreState
 advanced core to = ticks_of_core (to - core.box.stands.tick) core
 
--- what may happen: the box goes to a tick below 2^62
+-- what may happen: sessions have the ids 1 to 8, and the box goes to a tick below 2^62
 abbrev pub CanHappen : Event → Type 0
-CanHappen (events.Line id text) = Unit {0}
-CanHappen (events.Bad id refusal) = Unit {0}
+CanHappen (events.OpenControl id) = IsSession id
+CanHappen (events.Line id text) = IsSession id
+CanHappen (events.Bad id refusal) = IsSession id
+CanHappen (events.CloseControl id) = IsSession id
+CanHappen (events.OpenData id options) = IsSession id
+CanHappen (events.Take id) = IsSession id
+CanHappen (events.CloseData id) = IsSession id
 CanHappen (events.Advance to) = to < 2 ^ 62
 
--- what an event answers
+-- what a command of an open session is answered
+abbrev pub line_answer : CoreState → Said → Answer
+line_answer core said = said_answer core.settings core.box.stands core.sessions core.acquisitions said
+
+-- What an event answers. A command, also one that was refused as it was put together, is answered to an open session
+-- alone.
 abbrev pub answer : CoreState → Event → Answer
-answer core (events.Line id text) = said_answer core.settings core.box.stands core.acquisitions (command_of text)
-answer core (events.Bad id refusal) = answers.Error refusal
+answer core (events.OpenControl id) = answers.Nothing
+answer core (events.Line id text) = told_if_open (is_open core.sessions id) (line_answer core (command_of text))
+answer core (events.Bad id refusal) = told_if_open (is_open core.sessions id) (answers.Error refusal)
+answer core (events.CloseControl id) = answers.Nothing
+answer core (events.OpenData id options) = opened_answer (options_of options)
+answer core (events.Take id) = taken_answer core.acquisitions id
+answer core (events.CloseData id) = answers.Nothing
 answer core (events.Advance to) = answers.Reached (max core.box.stands.tick to) whys.Target
+
+-- the core after a command of a session: only one that is open changes it
+abbrev pub left_if_open : CoreState → ℕ → Said → CoreState
+left_if_open core id said = if is_open core.sessions id then said_after core said else core
 
 -- the core after an event
 abbrev pub after : CoreState → Event → CoreState
-after core (events.Line id text) = said_after core (command_of text)
+after core (events.OpenControl id) = with_sessions core (with_session id true core.sessions)
+after core (events.Line id text) = left_if_open core id (command_of text)
 after core (events.Bad id refusal) = core
+after core (events.CloseControl id) = with_sessions core (with_session id false core.sessions)
+after core (events.OpenData id options) = with_acquisitions core (opened_by id (options_of options) core.acquisitions)
+after core (events.Take id) = with_acquisitions core (after_take id core.acquisitions)
+after core (events.CloseData id) = with_acquisitions core (closed id core.acquisitions)
 after core (events.Advance to) = advanced core to
 
 -- how many ticks of the box an event takes, from this tick on
 abbrev pub ticks_of : ℕ → Event → ℕ
-ticks_of now (events.Line id text) = 0
-ticks_of now (events.Bad id refusal) = 0
 ticks_of now (events.Advance to) = to - now
+ticks_of now event = 0
 
 -- the core after these events, one after the other
 abbrev pub after_all : CoreState → List Event → CoreState
@@ -100,7 +126,9 @@ abbrev pub bytes_of : Answer → List ℕ
 bytes_of answers.Ok = codes "OK\n"
 bytes_of (answers.Reply text) = text
 bytes_of (answers.Error refusal) = line_of refusal
-bytes_of (answers.Reached tick why) = []
+bytes_of (answers.Opened status) = if status then codes "OK\n" else []
+bytes_of (answers.Piece text) = text
+bytes_of _ = []
 
 -- Want of memory.
 
@@ -112,13 +140,18 @@ IsReply _ = ⊥
 abbrev pub Arms : List ℕ → Answer → Type 0
 Arms target told = (named_by target ≡ Ok names.Arming) × (told ≡ answers.Ok)
 
--- The answers that may lack memory: a reply, and that an acquisition is armed.
+-- The answers that may lack memory: a reply, that an acquisition is armed, and a piece.
 abbrev pub MayLack : Said → Answer → Type 0
 MayLack (Assign target value) told = Arms target told
 MayLack said told = IsReply told
 
+abbrev pub IsPiece : Answer → Type 0
+IsPiece (answers.Piece text) = Unit {0}
+IsPiece _ = ⊥
+
 abbrev pub EventMayLack : Event → Answer → Type 0
 EventMayLack (events.Line id text) told = MayLack (command_of text) told
+EventMayLack (events.Take id) told = IsPiece told
 EventMayLack event told = ⊥
 
 -- An advance may stop at a tick below its target: at one that emits a record, for which there is no memory.

@@ -36,11 +36,9 @@ changed_by (Some change) box = changed_box box change
 
 -- the core where this is given: the settings and the box change
 abbrev pub with_given : CoreState → Given → CoreState
-with_given core new = record {
-  rows = core.rows;
+with_given core new = record core {
   settings = assigned core.settings new.slot new.text new.raw;
   box = changed_by (change_of new.slot new.raw) core.box;
-  acquisitions = core.acquisitions;
 }
 
 -- what an assignment to a slot gives
@@ -77,15 +75,12 @@ assignment settings all target value = result_then (named_by target) (named_give
 
 -- every CAPTURE becomes No
 abbrev pub with_clearing : CoreState → CoreState
-with_clearing core =
-    record { rows = core.rows; settings = without_captures core.settings; box = core.box; acquisitions = core.acquisitions }
+with_clearing core = record core { settings = without_captures core.settings }
 
 -- PCAP and an acquisition are armed, with room for as many records
 abbrev pub with_arming : CoreState → List Field → CoreState
 with_arming core layout =
-    record {
-      rows = core.rows;
-      settings = core.settings;
+    record core {
       box = changed_box core.box (changes.Arm (room_of layout));
       acquisitions = armed layout core.acquisitions;
     }
@@ -93,9 +88,7 @@ with_arming core layout =
 -- PCAP is disarmed, and the acquisition is over
 abbrev pub with_disarming : CoreState → CoreState
 with_disarming core =
-    record {
-      rows = core.rows;
-      settings = core.settings;
+    record core {
       box = changed_box core.box changes.Disarm;
       acquisitions = ended conditions.Disarmed core.acquisitions;
     }

@@ -1,5 +1,6 @@
 -- What the commands of capture tell and do.
-use Rattle.std.specs.Prelude.{ℕ, ◌==◌, List, ◌++◌, length, map, codes, decimal, is_some, Option, Some, None, Result, Ok, Err, if◌then◌else◌}
+use Rattle.std.specs.Prelude.{ℕ, ◌==◌, Bool, List, ◌++◌, length, map, codes, decimal, is_some, Option, Some, None, Result, Ok, Err, if◌then◌else◌}
+use Rattle.std.specs.List.{filter}
 use Rattle.pb_words.specs.declared.Refusal.{Refusal}
 use Rattle.pb_words.specs.declared.Refusal.TheVariants as refusals
 use Rattle.pb_buses.specs.declared.Condition.{Condition}
@@ -12,6 +13,8 @@ use Rattle.pb_acquire.specs.Acquisitions.{AllAcquisitions, arm_refusal, captured
 use Rattle.pb_config.specs.Settings.{Settings}
 use Rattle.pb_config.specs.Capturing.{output_of, layout_of}
 use Rattle.pb_replies.specs.Replies.{value_reply, list_reply}
+use Rattle.pb_acquire.specs.Taking.{reader_of, is_active_reader}
+use Rattle.pb_core.specs.Sessions.{session_ids, is_reading}
 
 -- `*CAPTURE?`: each captured field with its choice, in the order of the layout
 
@@ -30,10 +33,26 @@ capture_line field = target_of (output_of field.entry) ++ codes " " ++ choice_te
 abbrev pub captures_reply : Settings → List ℕ
 captures_reply settings = list_reply (map capture_line (layout_of settings))
 
--- `*PCAP.STATUS?`: whether one is armed or running, and how many readers there are, of which there are none
+-- `*PCAP.STATUS?`: whether one is armed or running, how many readers are open, and how many of those have an acquisition
+-- that was armed and whose end they didn't take
+
+abbrev pub is_busy_reading : AllAcquisitions → ℕ → Bool
+is_busy_reading all id = is_active_reader all (reader_of all id)
+
+-- of how many sessions this is so
+abbrev pub so_many : (ℕ → Bool) → ℕ
+so_many test = length (filter test session_ids)
+
+abbrev pub busy_text : Bool → List ℕ
+busy_text is_running = if is_running then codes "Busy " else codes "Idle "
 
 abbrev pub status_reply : AllAcquisitions → List ℕ
-status_reply all = value_reply (if is_some all.running then codes "Busy 0 0" else codes "Idle 0 0")
+status_reply all =
+    value_reply (
+    busy_text (is_some all.running)
+    ++ decimal (so_many (is_reading all))
+    ++ codes " "
+    ++ decimal (so_many (is_busy_reading all)))
 
 -- `*PCAP.CAPTURED?`: the records of the latest acquisition, 0 before the first
 abbrev pub captured_reply : AllAcquisitions → List ℕ

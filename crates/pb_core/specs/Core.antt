@@ -1,5 +1,5 @@
--- The core: the rows of its stimulus, the settings, the box and the acquisitions.
-use Rattle.std.specs.Prelude.{ℕ, zero, suc, List}
+-- The core: the rows of its stimulus, the settings, the box, the control sessions and the acquisitions with their readers.
+use Rattle.std.specs.Prelude.{ℕ, zero, suc, Bool, List, replicate, false}
 use Rattle.pb_stim.specs.declared.Row.{Row}
 use Rattle.pb_config.specs.Settings.{Settings}
 use Rattle.pb_config.specs.Defaults.{fresh}
@@ -13,22 +13,37 @@ pub record CoreState : Type 0 where
   pub rows : List Row
   pub settings : Settings
   pub box : Box
+  -- for each of the ids 1 to 8 whether its control session is open
+  pub sessions : List Bool
   pub acquisitions : AllAcquisitions
 
 -- the core as it opens
 abbrev pub opening : List Row → CoreState
-opening rows = record { rows = rows; settings = fresh; box = stimulated rows opening_box; acquisitions = acquire.opening }
+opening rows =
+    record {
+      rows = rows;
+      settings = fresh;
+      box = stimulated rows opening_box;
+      sessions = replicate 8 false;
+      acquisitions = acquire.opening;
+    }
 
 -- the core with another box
 abbrev pub with_box : CoreState → Box → CoreState
-with_box core box = record { rows = core.rows; settings = core.settings; box = box; acquisitions = core.acquisitions }
+with_box core box = record core { box = box }
+
+-- the core with other control sessions
+abbrev pub with_sessions : CoreState → List Bool → CoreState
+with_sessions core sessions = record core { sessions = sessions }
+
+-- the core with other acquisitions or readers
+abbrev pub with_acquisitions : CoreState → AllAcquisitions → CoreState
+with_acquisitions core all = record core { acquisitions = all }
 
 -- One tick of the core: the box makes it, and the acquisition that is armed or running takes what PCAP hands out.
 abbrev pub ticked : CoreState → CoreState
 ticked core =
-    record {
-      rows = core.rows;
-      settings = core.settings;
+    record core {
       box = tick core.rows core.box;
       acquisitions = taken (emitted_of core.box.stands) core.acquisitions;
     }

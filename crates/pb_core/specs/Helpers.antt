@@ -27,6 +27,7 @@ use Rattle.pb_core.specs.Writing.{Written}
 abbrev pub IsThere : Named → Type 0
 IsThere names.Identity = Unit {0}
 IsThere names.Blocks = Unit {0}
+IsThere names.Sessions = Unit {0}
 IsThere names.Positions = Unit {0}
 IsThere names.Captures = Unit {0}
 IsThere names.Arming = Unit {0}
@@ -52,11 +53,9 @@ kept_changed_by (Some change) kept = changed kept change
 
 -- what is kept of a core where this is given
 abbrev pub kept_with_given : KeptCore → Given → KeptCore
-kept_with_given core new = record {
-  rows = core.rows;
+kept_with_given core new = record core {
   settings = assigned core.settings new.slot new.text new.raw;
   box = kept_changed_by (change_of new.slot new.raw) core.box;
-  acquisitions = core.acquisitions;
 }
 
 -- what is kept after a value was given: nothing changes where it is refused
@@ -66,13 +65,7 @@ kept_given_by core (Err refusal) = core
 
 -- what is kept of a core where a table write left these words
 abbrev pub kept_with_written : KeptCore → Written → KeptCore
-kept_with_written core new =
-    record {
-      rows = core.rows;
-      settings = core.settings;
-      box = with_table core.box new.number new.words;
-      acquisitions = core.acquisitions;
-    }
+kept_with_written core new = record core { box = with_table core.box new.number new.words }
 
 -- what is kept after a table write: nothing changes where it is refused
 abbrev pub kept_written_by : KeptCore → Result Written Refusal → KeptCore
@@ -99,8 +92,7 @@ acquisitions_after deed all = all
 
 abbrev pub kept_with_deed : KeptCore → Deed → acquire.Kept → KeptCore
 kept_with_deed core deed acquisitions =
-    record {
-      rows = core.rows;
+    record core {
       settings = settings_after deed core.settings;
       box = kept_box_after deed core.box;
       acquisitions = acquisitions;

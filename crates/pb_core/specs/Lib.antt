@@ -2,6 +2,8 @@ pub mod Tick
 pub mod Core
 pub mod Kept
 pub mod Naming
+pub mod Sessions
+pub mod Who
 pub mod Captures
 pub mod Queries
 pub mod Assignments

@@ -36,11 +36,12 @@ capture_named name =
 abbrev pub star_named : List ℕ → Result Named Refusal
 star_named name =
     if is_same name (codes "IDN") then Ok names.Identity
+    else (if is_same name (codes "WHO") then Ok names.Sessions
     else (if is_same name (codes "BLOCKS") then Ok names.Blocks
     else (if is_same name (codes "POSITIONS") then Ok names.Positions
     else (if is_same name (codes "CAPTURE") then Ok names.Captures
     else option_map_or capture_named (after_front (codes "PCAP.") name)
-    (option_map_or labels_named (after_front (codes "ENUMS.") name) (Err refusals.NoSuchField)))))
+    (option_map_or labels_named (after_front (codes "ENUMS.") name) (Err refusals.NoSuchField))))))
 
 -- `LUT1.INPA.*` names all attributes of a field, and `LUT1.*` all fields of a block
 abbrev pub listing_named : List ℕ → Result Named Refusal

@@ -27,6 +27,7 @@ use Rattle.pb_core.specs.declared.targets.Named.{Named}
 use Rattle.pb_core.specs.declared.targets.Named.TheVariants as names
 use Rattle.pb_acquire.specs.Acquisitions.{AllAcquisitions}
 use Rattle.pb_core.specs.Captures.{captures_reply, status_reply, captured_reply, completion_reply}
+use Rattle.pb_core.specs.Who.{who_reply}
 use Rattle.pb_core.specs.Naming.{named_by}
 
 -- Values.
@@ -77,23 +78,25 @@ labels_or_refused slot = option_map_or (λ labels. Ok (list_reply labels)) (labe
 abbrev pub identity : List ℕ
 identity = codes "panda_sim 1.0"
 
--- what the query of what is named is answered
-abbrev pub named_reply : Settings → Standing → AllAcquisitions → Named → Result (List ℕ) Refusal
-named_reply settings box all names.Identity = Ok (value_reply identity)
-named_reply settings box all names.Blocks = Ok (list_reply block_lines)
-named_reply settings box all names.Positions = Ok (list_reply position_lines)
-named_reply settings box all names.Captures = Ok (captures_reply settings)
-named_reply settings box all names.Arming = Err refusals.NotReadable
-named_reply settings box all names.Disarming = Err refusals.NotReadable
-named_reply settings box all names.Status = Ok (status_reply all)
-named_reply settings box all names.Captured = Ok (captured_reply all)
-named_reply settings box all names.Completion = Ok (completion_reply all)
-named_reply settings box all (names.Labels slot) = labels_or_refused slot
-named_reply settings box all (names.Fields block) = Ok (list_reply (field_lines block))
-named_reply settings box all (names.Attributes slot) = Ok (list_reply (attribute_lines slot))
-named_reply settings box all (names.Value slot) = slot_reply settings box slot
+-- what the query of what is named is answered, by the settings, what stands in the box, the control sessions and the
+-- acquisitions
+abbrev pub named_reply : Settings → Standing → List Bool → AllAcquisitions → Named → Result (List ℕ) Refusal
+named_reply settings box sessions all names.Identity = Ok (value_reply identity)
+named_reply settings box sessions all names.Sessions = Ok (who_reply sessions all)
+named_reply settings box sessions all names.Blocks = Ok (list_reply block_lines)
+named_reply settings box sessions all names.Positions = Ok (list_reply position_lines)
+named_reply settings box sessions all names.Captures = Ok (captures_reply settings)
+named_reply settings box sessions all names.Arming = Err refusals.NotReadable
+named_reply settings box sessions all names.Disarming = Err refusals.NotReadable
+named_reply settings box sessions all names.Status = Ok (status_reply all)
+named_reply settings box sessions all names.Captured = Ok (captured_reply all)
+named_reply settings box sessions all names.Completion = Ok (completion_reply all)
+named_reply settings box sessions all (names.Labels slot) = labels_or_refused slot
+named_reply settings box sessions all (names.Fields block) = Ok (list_reply (field_lines block))
+named_reply settings box sessions all (names.Attributes slot) = Ok (list_reply (attribute_lines slot))
+named_reply settings box sessions all (names.Value slot) = slot_reply settings box slot
 
 -- The reply to the query of a target, or the first refusal that fits: that it names nothing; then that it
 -- can't be read.
-abbrev pub query_reply : Settings → Standing → AllAcquisitions → List ℕ → Result (List ℕ) Refusal
-query_reply settings box all target = result_then (named_by target) (named_reply settings box all)
+abbrev pub query_reply : Settings → Standing → List Bool → AllAcquisitions → List ℕ → Result (List ℕ) Refusal
+query_reply settings box sessions all target = result_then (named_by target) (named_reply settings box sessions all)

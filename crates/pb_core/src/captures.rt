@@ -4,6 +4,7 @@ ghost use Rattle.pb_acquire.specs.Kept as acquire;
 ghost use Rattle.pb_pcap.specs.Fields.{IsField};
 ghost use Rattle.pb_replies.specs.Replies.{listed};
 ghost use Rattle.pb_core.specs.Captures as definition;
+ghost use Rattle.pb_core.specs.Sessions.{is_reading};
 
 use pb_acquire::Acquisitions;
 use pb_buses::Condition;
@@ -51,15 +52,53 @@ fn choice_text(choice: Choice) -> &'static [u8]
     }
 }
 
-/// Whether an acquisition is armed or running, and that there are no readers.
+/// Whether an acquisition is armed or running, how many readers are open, and how many of those still read one that
+/// was armed.
 pub(crate) fn status_reply(alloc: Global, acquisitions: &Acquisitions) -> Result<Text, OutOfMemory>
     ensures { (all : AllAcquisitions) → acquire.Agrees acquisitions.now all → IfOk result (λ text. text ≡ definition.status_reply all) }
 {
-    if acquisitions.is_running() {
-        value_reply(alloc, b"Busy 0 0")
-    } else {
-        value_reply(alloc, b"Idle 0 0")
+    let mut text = Text::new(alloc);
+    text.append(b"OK =")?;
+    text.append(busy_text(acquisitions.is_running()))?;
+    text.append_number(open_count(acquisitions))?;
+    text.append(b" ")?;
+    text.append_number(active_count(acquisitions))?;
+    text.append(b"\n")?;
+    Ok(text)
+}
+
+fn busy_text(is_running: bool) -> &'static [u8]
+    ensures { result.now ≡ definition.busy_text is_running }
+{
+    if is_running { b"Busy " } else { b"Idle " }
+}
+
+/// How many readers are open.
+fn open_count(acquisitions: &Acquisitions) -> u64
+    ensures { (all : AllAcquisitions) → acquire.Agrees acquisitions.now all → result ≡ definition.so_many (is_reading all) }
+{
+    let mut count = 0u64;
+    for id in 1..9u32 {
+        if !acquisitions.is_open(id) {
+            continue;
+        }
+        count += 1;
     }
+    count
+}
+
+/// How many of them have an acquisition that was armed and whose end they didn't take.
+fn active_count(acquisitions: &Acquisitions) -> u64
+    ensures { (all : AllAcquisitions) → acquire.Agrees acquisitions.now all → result ≡ definition.so_many (definition.is_busy_reading all) }
+{
+    let mut count = 0u64;
+    for id in 1..9u32 {
+        if !acquisitions.is_active(id) {
+            continue;
+        }
+        count += 1;
+    }
+    count
 }
 
 /// How many records the latest acquisition has.

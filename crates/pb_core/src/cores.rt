@@ -1,11 +1,9 @@
-ghost use Rattle.std.specs.Prelude.{◌≡◌, ◌+◌, ◌-◌, ◌*◌, ◌<◌, ◌≤◌, ◌^◌, true, false, Ok, IfOk, OnOk, IfErr, OnErr, IsSome, is_none};
+ghost use Rattle.std.specs.Prelude.{◌≡◌, ◌+◌, ◌-◌, ◌*◌, ◌<◌, ◌≤◌, ◌^◌, true, false, Ok, IfOk, OnOk, IfErr, OnErr};
 ghost use Rattle.pb_buses.specs.Rules.{is_record};
-ghost use Rattle.pb_acquire.specs.Acquisitions.{AllAcquisitions, recorded};
+ghost use Rattle.pb_acquire.specs.Acquisitions.{AllAcquisitions};
 ghost use Rattle.pb_acquire.specs.Kept as acquire;
 ghost use Rattle.pb_acquire.specs.Kept.{spare_of};
-ghost use Rattle.pb_model.specs.Arming.{idle_after, is_completed};
 ghost use Rattle.pb_model.specs.Tick.{emitted_of};
-ghost use Rattle.pb_core.specs.Tick.{taken};
 ghost use Rattle.pb_grammar.specs.Grammar.{command_of};
 ghost use Rattle.pb_buses.specs.Buses.{selected, position};
 ghost use Rattle.pb_fields.specs.Slots.{role_at, kind_of};
@@ -15,9 +13,11 @@ use crate::assignments::assign;
 use crate::events::{Answer, Event, Why};
 use crate::placing::{put_rows, put_values};
 use crate::queries::query;
+use crate::reading::{open_reader, take_piece};
+use crate::recording::{make_room, take};
+use crate::sessions::Sessions;
 use crate::writes::write;
 use pb_acquire::{Acquisitions, ArmFault};
-use pb_buses::{Emit, Record};
 use pb_config::Config;
 use pb_fields::{Catalog, Role, Slot};
 use pb_grammar::{Command, parse};
@@ -30,8 +30,8 @@ use std::alloc::Global;
 use std::marker::Model;
 use std::sync::ledger::Ledger;
 
-/// The box with its settings and its stimulus, which events drive. A clause sees the rows, the settings
-/// and what is kept of the box.
+/// The box with its settings, its stimulus and its sessions, which events drive. A clause sees the rows, the settings,
+/// which control sessions are open, and what is kept of the box and of the acquisitions with their readers.
 #[derive(Drop)]
 pub struct Core {
     alloc: Global,
@@ -43,6 +43,7 @@ pub struct Core {
     /// The values of the ten targets of the stimulus at the box's tick.
     values: [i32; 10],
     state: BoxState,
+    sessions: Sessions,
     acquisitions: Acquisitions,
 }
 
@@ -54,7 +55,7 @@ impl Model for Core {
 
     ghost Value = { KeptCore };
 
-    ghost view = { λ c. record { rows = c.stimulus; settings = c.config; box = c.state; acquisitions = c.acquisitions } };
+    ghost view = { λ c. record { rows = c.stimulus; settings = c.config; box = c.state; sessions = c.sessions; acquisitions = c.acquisitions } };
 
     ghost invariant = { λ c. IsCurrent c.stimulus c.place c.values c.state.tick × (is_capture_idle c.state.blocks ≡ is_none c.acquisitions.running) };
 }
@@ -68,7 +69,8 @@ impl Core {
     ghost use Rattle.pb_core.specs.Core.{CoreState, opening, ticked};
     ghost use Rattle.pb_core.specs.Kept.{Agrees};
     ghost use Rattle.pb_core.specs.Assignments.{slot_given};
-    ghost use Rattle.pb_core.specs.Answer.{CanHappen, answer, IsTold, after_told, EventMayLack, MayLack, said_answer, said_after, done};
+    ghost use Rattle.pb_core.specs.Answer.{CanHappen, answer, IsTold, after_told, EventMayLack, MayLack, line_answer, left_if_open, said_after, done};
+    ghost use Rattle.pb_core.specs.Sessions.{IsSession, is_open, told_if_open};
     ghost use Rattle.pb_core.specs.Captures.{clears, without_value, arming, disarming};
     ghost use Rattle.pb_core.specs.Assignments.{captures};
     ghost use Rattle.pb_core.specs.declared.events.Answer.TheVariants as answers;
@@ -107,6 +109,7 @@ impl Core {
             place,
             values,
             state,
+            sessions: Sessions::new(),
             acquisitions,
         })
     }
@@ -119,8 +122,8 @@ impl Core {
         self.state.now()
     }
 
-    /// Lets an event happen, and answers it. Want of memory comes only in the place of a reply, and
-    /// changes nothing. The counter goes up by one for each step of a block: there are 35 at each tick.
+    /// Lets an event happen, and answers it. Want of memory comes only in the place of a reply or a piece and where an
+    /// acquisition is to be armed, and changes nothing. The counter goes up by one for each step of a block: there are 35 at each tick.
     pub fn apply<L: Ledger>(
         &mut self,
         event: &Event,
@@ -134,8 +137,24 @@ impl Core {
         ensures counts { steps.new ≡ steps.old + 35 * (self.new.box.tick - self.old.box.tick) }
     {
         match event {
-            Event::Line { id: _, text } => self.line(text.bytes()),
-            Event::Bad { id: _, refusal } => Ok(Answer::Error(*refusal)),
+            Event::OpenControl { id } => {
+                self.sessions.open(*id);
+                Ok(Answer::Nothing)
+            }
+            Event::Line { id, text } => self.line_of(*id, text.bytes()),
+            Event::Bad { id, refusal } => Ok(self.bad(*id, *refusal)),
+            Event::CloseControl { id } => {
+                self.sessions.close(*id);
+                Ok(Answer::Nothing)
+            }
+            Event::OpenData { id, options } => {
+                Ok(open_reader(&mut self.acquisitions, *id, options.bytes()))
+            }
+            Event::Take { id } => take_piece(&mut self.acquisitions, *id),
+            Event::CloseData { id } => {
+                self.acquisitions.close(*id);
+                Ok(Answer::Nothing)
+            }
             Event::Advance { to } => {
                 let why = self.advance(*to, steps);
                 Ok(Answer::Reached {
@@ -146,14 +165,44 @@ impl Core {
         }
     }
 
-    /// The answer to a whole command.
+    /// The answer to a whole command of a session, which is answered only if it is open.
+    fn line_of(&mut self, id: u32, bytes: &[u8]) -> Result<Answer, OutOfMemory>
+        requires { IsSession id }
+        ensures ok { (core : CoreState) → Agrees self.old core →
+            IfOk result (λ told. told ≡ told_if_open (is_open core.sessions id) (line_answer core (command_of bytes.now))) }
+        ensures core { (core : CoreState) → Agrees self.old core → OnOk result (Agrees self.new (left_if_open core id (command_of bytes.now))) }
+        ensures err { OnErr result (self.new ≡ self.old) }
+        ensures memory { (core : CoreState) → Agrees self.old core →
+            OnErr result (MayLack (command_of bytes.now) (told_if_open (is_open core.sessions id) (line_answer core (command_of bytes.now)))) }
+        ensures tick { self.new.box.tick ≡ self.old.box.tick }
+    {
+        if self.sessions.is_open(id) {
+            self.line(bytes)
+        } else {
+            Ok(Answer::Closed)
+        }
+    }
+
+    /// The answer to a command that was refused as it was put together.
+    fn bad(&self, id: u32, refusal: Refusal) -> Answer
+        requires { IsSession id }
+        ensures { (core : CoreState) → Agrees self.now core → result ≡ told_if_open (is_open core.sessions id) (answers.Error refusal) }
+    {
+        if self.sessions.is_open(id) {
+            Answer::Error(refusal)
+        } else {
+            Answer::Closed
+        }
+    }
+
+    /// The answer to a whole command of a session that is open.
     fn line(&mut self, bytes: &[u8]) -> Result<Answer, OutOfMemory>
         ensures ok { (core : CoreState) → Agrees self.old core →
-            IfOk result (λ told. told ≡ said_answer core.settings core.box.stands core.acquisitions (command_of bytes.now)) }
+            IfOk result (λ told. told ≡ line_answer core (command_of bytes.now)) }
         ensures core { (core : CoreState) → Agrees self.old core → OnOk result (Agrees self.new (said_after core (command_of bytes.now))) }
         ensures err { OnErr result (self.new ≡ self.old) }
         ensures memory { (core : CoreState) → Agrees self.old core →
-            OnErr result (MayLack (command_of bytes.now) (said_answer core.settings core.box.stands core.acquisitions (command_of bytes.now))) }
+            OnErr result (MayLack (command_of bytes.now) (line_answer core (command_of bytes.now))) }
         ensures tick { self.new.box.tick ≡ self.old.box.tick }
     {
         match parse(bytes) {
@@ -291,6 +340,12 @@ impl Core {
         Answer::Ok
     }
 
+    pub(crate) fn sessions(&self) -> &Sessions
+        ensures { result.now ≡ self.now.sessions }
+    {
+        &self.sessions
+    }
+
     pub(crate) fn acquisitions(&self) -> &Acquisitions
         ensures { result.now ≡ self.now.acquisitions }
     {
@@ -363,48 +418,5 @@ impl Core {
 
     pub(crate) fn alloc(&self) -> Global {
         self.alloc
-    }
-}
-
-/// Makes room in memory for one more record of the acquisition that is armed or running, and says whether there is.
-fn make_room(acquisitions: &mut Acquisitions) -> bool
-    ensures same { (all : AllAcquisitions) → acquire.Agrees acquisitions.old all → acquire.Agrees acquisitions.new all }
-    ensures idle { is_none acquisitions.new.running ≡ is_none acquisitions.old.running }
-    ensures room { result ≡ true → 1 ≤ spare_of acquisitions.new }
-{
-    match acquisitions.running() {
-        Some(records) => match records.reserve() {
-            Ok(()) => true,
-            Err(_) => false,
-        },
-        None => false,
-    }
-}
-
-/// What PCAP hands out goes to the acquisition that is armed or running. There is room in memory for a record.
-fn take(acquisitions: &mut Acquisitions, emit: Emit)
-    requires room { is_record emit ≡ true → 1 ≤ spare_of acquisitions.old }
-    requires running { is_completed emit ≡ true → IsSome acquisitions.old.running }
-    ensures agrees { (all : AllAcquisitions) → acquire.Agrees acquisitions.old all → acquire.Agrees acquisitions.new (taken emit all) }
-    ensures idle { is_none acquisitions.new.running ≡ idle_after emit (is_none acquisitions.old.running) }
-{
-    match emit {
-        Emit::Nothing => {}
-        Emit::Record(row) => record(acquisitions, &row),
-        Emit::Completed(condition) => acquisitions.complete(condition),
-    }
-}
-
-/// Adds a record to the acquisition that is running. There is room for it in memory.
-fn record(acquisitions: &mut Acquisitions, row: &Record)
-    requires { 1 ≤ spare_of acquisitions.old }
-    ensures agrees { (all : AllAcquisitions) → acquire.Agrees acquisitions.old all → acquire.Agrees acquisitions.new (recorded row.now all) }
-    ensures idle { is_none acquisitions.new.running ≡ is_none acquisitions.old.running }
-{
-    match acquisitions.running() {
-        Some(records) => {
-            let _kept = records.push(row);
-        }
-        None => {}
     }
 }

@@ -13,16 +13,22 @@ mod laws;
 mod meanings;
 mod placing;
 mod queries;
+mod reading;
+mod recording;
+mod sessions;
 mod targets;
 mod values;
+mod who;
 mod writes;
 
 pub use cores::Core;
 pub use events::{Answer, Event, Why};
 pub use examples::{
-    input_is_seen_one_tick_later, lut_of_itself_toggles, refused_lines_change_nothing,
+    input_is_seen_one_tick_later, lut_of_itself_toggles, readers_by_example,
+    refused_lines_change_nothing, sessions_by_example,
 };
 pub use laws::{
-    muxes_are_set, only_done_lines_change_the_core, refusals_come_in_order, settings_are_reached,
-    the_box_has_the_settings, unknown_star_targets_are_no_fields,
+    closed_sessions_are_told_so, muxes_are_set, only_done_lines_change_the_core,
+    refusals_come_in_order, settings_are_reached, the_box_has_the_settings,
+    unknown_star_targets_are_no_fields,
 };

@@ -28,6 +28,8 @@ fn star_named(catalog: &Catalog, name: &[u8]) -> Result<Named, Refusal>
 {
     if name == b"IDN".as_slice() {
         Ok(Named::Identity)
+    } else if name == b"WHO".as_slice() {
+        Ok(Named::Sessions)
     } else if name == b"BLOCKS".as_slice() {
         Ok(Named::Blocks)
     } else if name == b"POSITIONS".as_slice() {

@@ -13,6 +13,7 @@ use crate::events::Answer;
 use crate::meanings::named_by;
 use crate::targets::Named;
 use crate::values::slot_answer;
+use crate::who::who_reply;
 use pb_fields::Slot;
 use pb_replies::{
     attributes_reply, blocks_reply, fields_reply, has_labels, labels_reply, positions_reply,
@@ -23,9 +24,9 @@ use pb_words::{OutOfMemory, Refusal};
 /// The answer to the query of a target.
 pub(crate) fn query(core: &Core, target: &[u8]) -> Result<Answer, OutOfMemory>
     ensures ok { (all : AllAcquisitions) → acquire.Agrees core.now.acquisitions all →
-        IfOk result (λ told. told ≡ replied (query_reply core.now.settings (stands_of core.now.box) all target.now)) }
+        IfOk result (λ told. told ≡ replied (query_reply core.now.settings (stands_of core.now.box) core.now.sessions all target.now)) }
     ensures memory { (all : AllAcquisitions) → acquire.Agrees core.now.acquisitions all →
-        OnErr result (IsReply (replied (query_reply core.now.settings (stands_of core.now.box) all target.now))) }
+        OnErr result (IsReply (replied (query_reply core.now.settings (stands_of core.now.box) core.now.sessions all target.now))) }
 {
     match named_by(core.catalog(), target) {
         Ok(named) => named_answer(core, named),
@@ -37,12 +38,17 @@ pub(crate) fn query(core: &Core, target: &[u8]) -> Result<Answer, OutOfMemory>
 fn named_answer(core: &Core, named: Named) -> Result<Answer, OutOfMemory>
     requires { IsThere named }
     ensures ok { (all : AllAcquisitions) → acquire.Agrees core.now.acquisitions all →
-        IfOk result (λ told. told ≡ replied (named_reply core.now.settings (stands_of core.now.box) all named)) }
+        IfOk result (λ told. told ≡ replied (named_reply core.now.settings (stands_of core.now.box) core.now.sessions all named)) }
     ensures memory { (all : AllAcquisitions) → acquire.Agrees core.now.acquisitions all →
-        OnErr result (IsReply (replied (named_reply core.now.settings (stands_of core.now.box) all named))) }
+        OnErr result (IsReply (replied (named_reply core.now.settings (stands_of core.now.box) core.now.sessions all named))) }
 {
     match named {
         Named::Identity => Ok(Answer::Reply(value_reply(core.alloc(), b"panda_sim 1.0")?)),
+        Named::Sessions => Ok(Answer::Reply(who_reply(
+            core.alloc(),
+            core.sessions(),
+            core.acquisitions(),
+        )?)),
         Named::Blocks => Ok(Answer::Reply(blocks_reply(core.alloc())?)),
         Named::Positions => Ok(Answer::Reply(positions_reply(core.alloc())?)),
         Named::Captures => Ok(Answer::Reply(captures_reply(core.alloc(), core.settings())?)),

@@ -5,6 +5,8 @@ use pb_fields::Slot;
 pub(crate) enum Named {
     /// `*IDN`: who answers.
     Identity,
+    /// `*WHO`: the sessions that are open.
+    Sessions,
     /// `*BLOCKS`: all blocks.
     Blocks,
     /// `*POSITIONS`: the entries of the position bus.
@@ -15,7 +17,7 @@ pub(crate) enum Named {
     Arming,
     /// `*PCAP.DISARM`.
     Disarming,
-    /// `*PCAP.STATUS`: whether one is armed or running.
+    /// `*PCAP.STATUS`: whether one is armed or running, and how many readers there are.
     Status,
     /// `*PCAP.CAPTURED`: how many records the latest acquisition has.
     Captured,

@@ -11,6 +11,7 @@ returns-clause-ok c =
     record {
       rows = refl;
       settings = c.in-Ok-new.ensures;
+      sessions = c.new-5.ensures;
       acquisitions = c.in-Ok-new-3.ensures;
       box =
           subst (λ k. boxes.Agrees k (stimulated c.args.stimulus opening_box)) (sym c.put_values.ensures)

@@ -1,0 +1,9 @@
+pub mod SpaceLemmas
+pub mod FormLemmas
+pub mod LineCuts
+pub mod InputLemmas
+pub mod RuleLemmas
+pub mod ScriptLaws
+pub mod ReadSoFar
+pub mod AddedLines
+pub mod ValueLemmas

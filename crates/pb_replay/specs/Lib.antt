@@ -1,0 +1,10 @@
+pub mod Adding
+pub mod Faults
+pub mod Forms
+pub mod Inputs
+pub mod Kept
+pub mod Lines
+pub mod Reading
+pub mod Refused
+pub mod Script
+pub mod Steps
