@@ -5,7 +5,8 @@ use Rattle.pb_fields.specs.Slots.{kind_of}
 use Rattle.pb_fields.specs.Values.{shown}
 use Rattle.pb_changes.specs.declared.Group.TheVariants as groups
 use Rattle.pb_changes.specs.Groups.{is_in}
-use Rattle.pb_changes.specs.Past.{Told, is_same}
+use Rattle.pb_fields.specs.Assigned.{is_same}
+use Rattle.pb_changes.specs.Past.{Told}
 use Rattle.changes_tests.specs.declared.fakes.Fake.{Fake}
 
 -- what is shown of a slot: a read field has the raw value 0, every other slot the text 7

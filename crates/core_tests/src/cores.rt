@@ -147,3 +147,96 @@ fn records_are_captured(rt: HostRuntime) -> Result<(), Fail> {
     assert_eq!(rt; now, 20);
     Ok(())
 }
+
+/// What data session 2 takes, one piece after the other.
+fn takes<L: Ledger>(
+    rt: &impl Abort,
+    steps: &mut Steps<L>,
+    core: &mut Core,
+    pieces: &[&str],
+) -> Result<(), Fail> {
+    for wanted in pieces {
+        let piece = told(steps, core, &Event::Take { id: 2 })?;
+        assert_eq!(rt; piece.bytes(), wanted.as_bytes());
+    }
+    Ok(())
+}
+
+/// Data session 2 opens with these options.
+fn reader(alloc: Global, options: &[u8]) -> Result<Event, Fail>
+    ensures { IfOk result CanHappen }
+{
+    let mut text = Text::new(alloc);
+    if text.append(options).is_err() {
+        text.append(options)?;
+    }
+    Ok(Event::OpenData {
+        id: 2,
+        options: text,
+    })
+}
+
+/// A control session and a data session open. Before that there is nothing to take.
+fn open_sessions<L: Ledger>(
+    rt: &impl Abort,
+    alloc: Global,
+    steps: &mut Steps<L>,
+    core: &mut Core,
+) -> Result<(), Fail> {
+    takes(rt, steps, core, &[""])?;
+    let _opened = told(steps, core, &Event::OpenControl { id: 1 })?;
+    let session = reader(alloc, b"ASCII UNSCALED NO_HEADER ONE_SHOT")?;
+    let told_so = told(steps, core, &session)?;
+    assert_eq!(rt; told_so.bytes(), b"OK\n".as_slice());
+    Ok(())
+}
+
+/// What is captured is read while it comes, and after it has ended.
+fn read_captured<L: Ledger>(
+    rt: &impl Abort,
+    alloc: Global,
+    steps: &mut Steps<L>,
+    core: &mut Core,
+) -> Result<(), Fail> {
+    play(rt, alloc, steps, core, CAPTURE)?;
+    takes(rt, steps, core, &[" 0\n 0\n 0\n 0\n 0\n", ""])?;
+    play(rt, alloc, steps, core, DISARM)?;
+    takes(rt, steps, core, &[" -5\n", "END 6 Disarmed\n", ""])
+}
+
+fn read_from_the_start<L: Ledger>(rt: &impl Abort, alloc: Global, blank: Blank) -> Result<u64, Fail>
+    requires name { blank.name ≡ L.name }
+    requires parts { blank.parts ≡ L.parts }
+    requires some { 0 < blank.parts }
+{
+    let mut steps: Steps<L> = Steps::new(blank);
+    let mut core = opened(alloc, stimulus(alloc)?)?;
+    open_sessions(rt, alloc, &mut steps, &mut core)?;
+    read_captured(rt, alloc, &mut steps, &mut core)?;
+    Ok(core.now())
+}
+
+/// A LUT that feeds itself triggers a record at each odd tick.
+const CAPTURE: &[Move<'static>] = &[
+    (0, "LUT1.INPA=LUT1.OUT\n", "OK\n"),
+    (0, "LUT1.FUNC=~A\n", "OK\n"),
+    (0, "PCAP.TRIG=LUT1.OUT\n", "OK\n"),
+    (0, "PCAP.ENABLE=ONE\n", "OK\n"),
+    (0, "INENC1.VAL.CAPTURE=Value\n", "OK\n"),
+    (0, "*PCAP.STATUS?\n", "OK =Idle 1 0\n"),
+    (0, "*PCAP.ARM=\n", "OK\n"),
+    (10, "*PCAP.STATUS?\n", "OK =Busy 1 1\n"),
+];
+
+const DISARM: &[Move<'static>] = &[
+    (12, "*WHO?\n", "!C 1\n!D 2\n.\n"),
+    (12, "*PCAP.DISARM=\n", "OK\n"),
+];
+
+/// Each allocation may fail once, those for pieces too.
+#[test]
+fn captured_records_are_read(rt: HostRuntime) -> Result<(), Fail> {
+    let now = read_from_the_start::<Brand>(&rt, rt.alloc(), Blank::new(1))?;
+    assert_eq!(rt; now, 12);
+    Ok(())
+}

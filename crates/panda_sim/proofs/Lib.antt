@@ -1,12 +1,4 @@
-pub mod LineLemmas
-pub mod SignedTexts
-pub mod Unique
-pub mod ReadSoFar
-pub mod ReadDeeds
-pub mod PlayedLines
-pub mod FedLines
-pub mod PlayedSoFar
-pub mod OneWord
 pub mod Causes
+pub mod LongInputs
+pub mod OneWord
 pub mod TakenLemmas
-pub mod ToldEvents

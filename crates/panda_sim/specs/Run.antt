@@ -1,14 +1,13 @@
 -- What a run of the program reads and writes, by the status with which it ends.
-use Rattle.std.specs.Prelude.{◌≡◌, ℕ, ◌<◌, ◌≤◌, ◌⊎◌, List, [], ◌∷◌, ◌++◌, length, Option, codes}
+use Rattle.std.specs.Prelude.{◌≡◌, ℕ, ◌<◌, ◌≤◌, ◌⊎◌, List, [], ◌∷◌, ◌++◌, length, Option, Some, codes}
 use Rattle.pb_ports.specs.Ports.{Takes, IsSpent, Adds}
 use Rattle.panda_sim.specs.declared.statuses.Status.{Status}
 use Rattle.panda_sim.specs.declared.statuses.Status.TheVariants as statuses
-use Rattle.panda_sim.specs.Script.{Line, IsScript}
-use Rattle.panda_sim.specs.Output.{output}
-
--- some front of these bytes is added
-abbrev pub AddsFront : Option (List ℕ) → List ℕ → Option (List ℕ) → Type 0
-AddsFront old bytes new = (front : List ℕ) × (rest : List ℕ) × (bytes ≡ front ++ rest) × Adds old front new
+use Rattle.pb_stim.specs.declared.Cause.{Cause}
+use Rattle.pb_replay.specs.Script.{Line, IsScript}
+use Rattle.pb_replay.specs.Faults.{first_fault}
+use Rattle.pb_replay.specs.Output.{output}
+use Rattle.pb_replay.specs.Plays.{AddsFront}
 
 -- the words are the one word `replay`
 abbrev pub IsReplay : List (List ℕ) → Type 0
@@ -23,12 +22,13 @@ pub record Replays (given left : Option (List ℕ)) (Wrote : List ℕ → Type 0
   pub script : IsScript bytes lines
   pub wrote : Wrote (output lines)
 
--- What was read is no script: it is all of the input, or more than 16 MiB of it.
-pub record ReadsNoScript (given left : Option (List ℕ)) : Type 0 where
+-- What was read is no script: it is all of the input, or more than 16 MiB of it. This line is the first that breaks a rule, and this
+-- the first rule that it breaks.
+pub record ReadsNoScript (line : ℕ) (cause : Cause) (given left : Option (List ℕ)) : Type 0 where
   pub bytes : List ℕ
   pub taken : Takes given bytes left
   pub enough : IsSpent left ⊎ (16777216 < length bytes)
-  pub none : (lines : List Line) → ¬ (IsScript bytes lines)
+  pub fault : first_fault bytes ≡ Some (line, cause)
 
 -- What a run leaves: of the input given there is this left, and the output held and holds now.
 abbrev pub Leaves : Status → Option (List ℕ) → Option (List ℕ) → Option (List ℕ) → Option (List ℕ) → Type 0
@@ -37,7 +37,7 @@ Leaves statuses.Ok given left held now = Replays given left (λ out. Adds held o
 -- nothing was read or written
 Leaves statuses.Usage given left held now = (left ≡ given) × (now ≡ held)
 -- nothing was written
-Leaves statuses.Script given left held now = ReadsNoScript given left × (now ≡ held)
+Leaves (statuses.Script line cause) given left held now = ReadsNoScript line cause given left × (now ≡ held)
 Leaves statuses.ReadFault given left held now = now ≡ held
 -- the whole input was a script, and a front of its output was written
 Leaves statuses.WriteFault given left held now = Replays given left (λ out. AddsFront held out now)
@@ -48,7 +48,7 @@ Leaves statuses.OutOfMemory given left held now = (now ≡ held) ⊎ Replays giv
 abbrev pub EndsOnNoScript : Status → Type 0
 EndsOnNoScript statuses.Ok = ⊥
 EndsOnNoScript statuses.Usage = ⊥
-EndsOnNoScript statuses.Script = Unit {0}
+EndsOnNoScript (statuses.Script line cause) = Unit {0}
 EndsOnNoScript statuses.ReadFault = Unit {0}
 EndsOnNoScript statuses.WriteFault = ⊥
 EndsOnNoScript statuses.OutOfMemory = Unit {0}
@@ -57,7 +57,7 @@ EndsOnNoScript statuses.OutOfMemory = Unit {0}
 abbrev pub EndsOnScript : Status → Type 0
 EndsOnScript statuses.Ok = Unit {0}
 EndsOnScript statuses.Usage = ⊥
-EndsOnScript statuses.Script = ⊥
+EndsOnScript (statuses.Script line cause) = ⊥
 EndsOnScript statuses.ReadFault = ⊥
 EndsOnScript statuses.WriteFault = ⊥
 EndsOnScript statuses.OutOfMemory = Unit {0}

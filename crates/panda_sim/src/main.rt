@@ -1,16 +1,7 @@
-//! `panda_sim replay`: runs a script of commands and stimulus from bytes to bytes.
+//! `panda_sim replay`: runs a script of commands, stimulus and data sessions from bytes to bytes.
 #![tactic(auto)]
 
-mod cuts;
-mod examples;
-mod feeding;
-mod lines;
-mod parsing;
-mod playing;
-mod reading;
 mod running;
-mod scripts;
-mod sections;
 mod statuses;
 #[cfg(test)]
 mod tests;
@@ -18,6 +9,7 @@ mod tests;
 ghost use Rattle.std.specs.Prelude.{◌≡◌, ◌<◌};
 
 use pb_ports::{ReaderSource, WriterSink};
+use pb_replay::ScriptFault;
 use pb_words::{Steps, Text};
 use running::run;
 use statuses::Status;
@@ -81,7 +73,7 @@ fn code(status: Status) -> u8 {
     match status {
         Status::Ok => 0,
         Status::Usage => 1,
-        Status::Script => 2,
+        Status::Script { .. } => 2,
         Status::ReadFault => 3,
         Status::WriteFault => 4,
         Status::OutOfMemory => 5,
@@ -93,7 +85,10 @@ fn report(rt: &impl Eprint, status: Status) {
     let text = match status {
         Status::Ok => return,
         Status::Usage => "usage: panda_sim replay",
-        Status::Script => "script refused",
+        Status::Script { line, cause } => {
+            let _ = rt.eprintln(ScriptFault::Line { line, cause });
+            return;
+        }
         Status::ReadFault => "read fault",
         Status::WriteFault => "write fault",
         Status::OutOfMemory => "out of memory",

@@ -1,13 +1,14 @@
-ghost use Rattle.std.specs.Prelude.{◌≡◌, ◌≢◌, ℕ, ◌<◌, ◌↔◌, ◌⊎◌, List, length, IsTrue, IfOk, IsErrOf};
+ghost use Rattle.std.specs.Prelude.{◌≡◌, ◌≢◌, ℕ, ◌<◌, ◌↔◌, ◌⊎◌, List, length, Some, IsTrue, IfOk, IsErrOf};
 ghost use Rattle.pb_ports.specs.Ports.{Rose, Takes, IsSpent};
-ghost use Rattle.panda_sim.specs.Script.{Line, IsScript};
+ghost use Rattle.pb_stim.specs.declared.Cause.{Cause};
+ghost use Rattle.pb_replay.specs.Script.{Line, IsScript};
+ghost use Rattle.pb_replay.specs.Faults.{first_fault};
 ghost use Rattle.panda_sim.specs.Run.{IsReplay, Leaves, EndsOnNoScript, EndsOnScript, TakesUpToOnePieceMore};
-ghost use Rattle.panda_sim.specs.Plays.{Replayed};
+ghost use Rattle.panda_sim.specs.Replayed.{Replayed};
 
-use crate::parsing::{LONGEST, parse};
-use crate::playing::play;
-use crate::statuses::{Played, Status};
+use crate::statuses::Status;
 use pb_ports::{Read, Sink, Source};
+use pb_replay::{Played, ScriptFault, kept_scripts_have_their_output, parse, play};
 use pb_words::{Steps, Text};
 use std::alloc::Global;
 use std::sync::ledger::Ledger;
@@ -32,6 +33,10 @@ pub fn run<S: Source, K: Sink, L: Ledger>(
     // A fault has its cause in the input or the output.
     ensures read_cause { result ≡ Status.ReadFault → Rose (S.faults input.old) (S.faults input.new) }
     ensures write_cause { result ≡ Status.WriteFault → Rose (K.faults output.old) (K.faults output.new) }
+
+    // The line and the cause that are told are those of the whole input, however much of it was read.
+    ensures fault { (bytes : List ℕ) (line : ℕ) (cause : Cause) → S.left input.old ≡ Some bytes → result ≡ Status.Script line cause
+        → first_fault bytes ≡ Some (line, cause) }
 
     // What is no script is refused, unless the input fails or memory runs out first.
     ensures script { (bytes : List ℕ) → IsReplay words.now → S.left input.old ≡ Some bytes
@@ -69,10 +74,8 @@ fn run_words<S: Source, K: Sink, L: Ledger>(
     }
 }
 
-/// The bytes of a script are one list of lines, so a script has one output.
-pub fn scripts_have_one_reading()
-    ensures { (bytes : List ℕ) (lines others : List Line) → IsScript bytes lines → IsScript bytes others → lines ≡ others }
-{}
+/// The longest script, in bytes: 16 MiB.
+const LONGEST: usize = 16_777_216;
 
 /// Why the input isn't read to its end.
 #[derive(Clone, Copy, Debug, PartialEq, Eq)]
@@ -124,13 +127,14 @@ fn replay<K: Sink, L: Ledger>(
     ensures replayed { Replayed result bytes.now (K.held output.old) (K.held output.new) }
     ensures cause { result ≡ Status.WriteFault → Rose (K.faults output.old) (K.faults output.new) }
 {
+    kept_scripts_have_their_output();
     match parse(alloc, bytes) {
-        Ok(Some(script)) => match play(alloc, script, output, steps) {
+        Ok(script) => match play(alloc, &script, output, steps) {
             Played::Ok => Status::Ok,
             Played::WriteFault => Status::WriteFault,
             Played::OutOfMemory => Status::OutOfMemory,
         },
-        Ok(None) => Status::Script,
-        Err(_) => Status::OutOfMemory,
+        Err(ScriptFault::Line { line, cause }) => Status::Script { line, cause },
+        Err(ScriptFault::OutOfMemory) => Status::OutOfMemory,
     }
 }

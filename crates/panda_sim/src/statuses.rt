@@ -1,3 +1,5 @@
+use pb_stim::Cause;
+
 /// How a run ends.
 #[derive(Clone, Copy, Debug, PartialEq, Eq)]
 pub enum Status {
@@ -5,21 +7,11 @@ pub enum Status {
     Ok,
     /// The words are none that the program knows; nothing was read or written.
     Usage,
-    /// The input is no script; nothing was written.
-    Script,
+    /// The input is no script: this line, counted from 1, is the first that breaks a rule, and this is the first rule that
+    /// it breaks. Nothing was written.
+    Script { line: u64, cause: Cause },
     /// The input failed; nothing was written.
     ReadFault,
-    /// The output failed; it has the front of what was to be written.
-    WriteFault,
-    /// Memory ran out; the output has the front of what was to be written.
-    OutOfMemory,
-}
-
-/// How the playing of a script ends.
-#[derive(Clone, Copy, Debug, PartialEq, Eq)]
-pub enum Played {
-    /// All was written.
-    Ok,
     /// The output failed; it has the front of what was to be written.
     WriteFault,
     /// Memory ran out; the output has the front of what was to be written.

@@ -2,6 +2,7 @@ ghost use Rattle.std.specs.Prelude.{◌≡◌, ◌<◌, ◌≤◌};
 
 use super::*;
 use pb_ports::{MemSink, MemSource};
+use pb_stim::Cause;
 use pb_words::OutOfMemory;
 use std::process::Abort;
 use std::test::Fail;
@@ -113,7 +114,7 @@ fn a_read_that_fails_writes_nothing(rt: HostRuntime) -> Result<(), Fail> {
     )
 }
 
-// One write for each of the five sections.
+// All sections are few, so there is one write.
 #[test]
 fn a_write_that_fails_leaves_a_front(rt: HostRuntime) -> Result<(), Fail> {
     ends_as(
@@ -121,14 +122,16 @@ fn a_write_that_fails_leaves_a_front(rt: HostRuntime) -> Result<(), Fail> {
         rt.alloc(),
         &[
             (16, None, Some(1), Status::WriteFault, 0),
-            (16, None, Some(2), Status::WriteFault, 11),
-            (16, None, Some(3), Status::WriteFault, 22),
-            (16, None, Some(4), Status::WriteFault, 37),
-            (16, None, Some(5), Status::WriteFault, 52),
-            (16, None, Some(6), Status::Ok, 67),
+            (16, None, Some(2), Status::Ok, 67),
         ],
     )
 }
+
+/// Line 1 has bytes 1 to 4 and each later line one byte, so byte 16 MiB + 1 is line 16 MiB - 2.
+const TOO_LARGE: Status = Status::Script {
+    line: 16_777_214,
+    cause: Cause::TooLarge,
+};
 
 /// The end line and empty lines, of 1 KiB and so many further ones.
 fn long_script(alloc: Global, more: usize) -> Result<Text, OutOfMemory> {
@@ -150,9 +153,9 @@ fn no_read_is_made_beyond_16_mib(rt: HostRuntime) -> Result<(), Fail> {
         (16_383, 65_536, 1_025, Status::ReadFault),
         (16_383, 65_536, 1_026, Status::Ok),
         (16_500, 65_536, 1_025, Status::ReadFault),
-        (16_500, 65_536, 1_026, Status::Script),
+        (16_500, 65_536, 1_026, TOO_LARGE),
         (16_500, 7, 2_396_746, Status::ReadFault),
-        (16_500, 7, 2_396_747, Status::Script),
+        (16_500, 7, 2_396_747, TOO_LARGE),
     ];
     for (more, piece, read, wanted) in table {
         let script = long_script(rt.alloc(), more)?;

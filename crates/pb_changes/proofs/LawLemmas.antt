@@ -11,7 +11,8 @@ use Rattle.pb_replies.specs.Replies.{list_reply}
 use Rattle.pb_changes.specs.declared.groups.Group.{Group}
 use Rattle.pb_changes.specs.declared.groups.Group.TheVariants as groups
 use Rattle.pb_changes.specs.Groups.{is_in}
-use Rattle.pb_changes.specs.Past.{Past, last_assignment, last_place}
+use Rattle.pb_fields.specs.Assigned.{last_assignment, last_place}
+use Rattle.pb_changes.specs.Past.{Past}
 use Rattle.pb_changes.specs.Report.{Reported, since, is_named_after, is_changed_after, is_reported, line, lines, report, noted, after_report}
 use Rattle.pb_changes.proofs.PastLemmas.{named_by_last, changed_by_last, last_below, change_below}
 use Rattle.pb_changes.proofs.SlotLemmas.{is_slot, all_slots}

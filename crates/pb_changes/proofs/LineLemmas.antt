@@ -15,7 +15,8 @@ use Rattle.pb_changes.specs.declared.groups.Group.{Group}
 use Rattle.pb_changes.specs.declared.groups.Group.TheVariants as groups
 use Rattle.pb_changes.specs.declared.marks.Marks.{Marks}
 use Rattle.pb_changes.specs.Groups.{is_in, slots_in}
-use Rattle.pb_changes.specs.Past.{Past, Told, AgreesWithPast, last_place, told_place}
+use Rattle.pb_fields.specs.Assigned.{last_place, told_place}
+use Rattle.pb_changes.specs.Past.{Past, Told, AgreesWithPast}
 use Rattle.pb_changes.specs.Report.{Reported, since, is_named_after, is_changed_after, is_reported, line, lines}
 use Rattle.pb_changes.specs.Kept.{read_at, AreShownAs, AreKept, Keeps}
 use Rattle.pb_changes.specs.Helpers.{is_later, is_due, lines_due, NoneIsDue, is_read_due, read_line, read_lines}

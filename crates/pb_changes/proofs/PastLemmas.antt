@@ -7,7 +7,8 @@ use Rattle.pb_fields.specs.declared.Slot.{Slot}
 use Rattle.pb_fields.specs.Slots.{IsSlot}
 use Rattle.pb_buses.specs.declared.Bus.{Bus}
 use Rattle.pb_buses.specs.Buses.{value, last_change}
-use Rattle.pb_changes.specs.Past.{Past, Told, AgreesWithPast, is_same, last_assignment, last_place, told_place}
+use Rattle.pb_fields.specs.Assigned.{is_same, last_assignment, last_place, told_place}
+use Rattle.pb_changes.specs.Past.{Past, Told, AgreesWithPast}
 use Rattle.pb_changes.specs.Report.{is_named_after, is_changed_after}
 
 -- two tests that hold of the same

@@ -6,7 +6,8 @@ use Rattle.pb_fields.specs.declared.Slot.{Slot}
 use Rattle.pb_fields.specs.Order.{slot_at}
 use Rattle.pb_buses.specs.declared.Bus.{Bus}
 use Rattle.pb_buses.specs.Buses.{opening_bus}
-use Rattle.pb_changes.specs.Past.{Past, is_same}
+use Rattle.pb_fields.specs.Assigned.{is_same}
+use Rattle.pb_changes.specs.Past.{Past}
 use Rattle.pb_changes.specs.Report.{Reported, opening, after_reset}
 
 -- FUNC of a LUT

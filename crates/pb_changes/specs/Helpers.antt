@@ -10,7 +10,8 @@ use Rattle.pb_replies.specs.Replies.{listed}
 use Rattle.pb_changes.specs.declared.groups.Group.{Group}
 use Rattle.pb_changes.specs.declared.groups.Group.TheVariants as groups
 use Rattle.pb_changes.specs.Groups.{is_in}
-use Rattle.pb_changes.specs.Past.{Told, last_place}
+use Rattle.pb_fields.specs.Assigned.{last_place}
+use Rattle.pb_changes.specs.Past.{Told}
 use Rattle.pb_changes.specs.Report.{line}
 use Rattle.pb_changes.specs.Kept.{read_at}
 

@@ -8,7 +8,7 @@ use Rattle.pb_fields.specs.Values.{IsRaw, shown}
 use Rattle.pb_changes.specs.declared.groups.Group.TheVariants as groups
 use Rattle.pb_changes.specs.declared.marks.Marks.{Marks}
 use Rattle.pb_changes.specs.Groups.{slots_in}
-use Rattle.pb_changes.specs.Past.{told_place}
+use Rattle.pb_fields.specs.Assigned.{told_place}
 use Rattle.pb_changes.specs.Report.{Reported}
 
 -- the read field at a place among the read fields, of which there are 24

@@ -13,7 +13,8 @@ use Rattle.pb_replies.specs.Replies.{list_reply}
 use Rattle.pb_changes.specs.declared.groups.Group.{Group}
 use Rattle.pb_changes.specs.declared.groups.Group.TheVariants as groups
 use Rattle.pb_changes.specs.Groups.{asked, is_in}
-use Rattle.pb_changes.specs.Past.{Past, is_same, last_place}
+use Rattle.pb_fields.specs.Assigned.{is_same, last_place}
+use Rattle.pb_changes.specs.Past.{Past}
 
 -- What was last reported to a session, for each group: how many assignments had been accepted, or the tick,
 -- when the group was last reported or reset; of the read fields what was shown of each. None where all of

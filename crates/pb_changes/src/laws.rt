@@ -3,7 +3,8 @@ ghost use Rattle.pb_fields.specs.declared.Slot.{Slot};
 ghost use Rattle.pb_replies.specs.Replies.{list_reply};
 ghost use Rattle.pb_changes.specs.declared.groups.Group.{Group};
 ghost use Rattle.pb_changes.specs.Groups.{all_groups, slots_in};
-ghost use Rattle.pb_changes.specs.Past.{Past, last_assignment, last_place};
+ghost use Rattle.pb_fields.specs.Assigned.{last_assignment, last_place};
+ghost use Rattle.pb_changes.specs.Past.{Past};
 ghost use Rattle.pb_changes.specs.Report.{Reported, opening, is_reported, noted, report, after_report};
 ghost use Rattle.pb_changes.specs.Examples.{at_reset, at_end, after_change, shown_then};
 

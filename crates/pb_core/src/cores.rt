@@ -70,7 +70,7 @@ impl Core {
     ghost use Rattle.pb_core.specs.Kept.{Agrees};
     ghost use Rattle.pb_core.specs.Assignments.{slot_given};
     ghost use Rattle.pb_core.specs.Answer.{CanHappen, answer, IsTold, after_told, EventMayLack, MayLack, line_answer, left_if_open, said_after, done};
-    ghost use Rattle.pb_core.specs.Sessions.{IsSession, is_open, told_if_open};
+    ghost use Rattle.pb_core.specs.Sessions.{IsSession, is_open, is_reading, told_if_open};
     ghost use Rattle.pb_core.specs.Captures.{clears, without_value, arming, disarming};
     ghost use Rattle.pb_core.specs.Assignments.{captures};
     ghost use Rattle.pb_core.specs.declared.events.Answer.TheVariants as answers;
@@ -120,6 +120,22 @@ impl Core {
         ensures small { result < 2 ^ 62 }
     {
         self.state.now()
+    }
+
+    /// Whether the control session of this id is open.
+    pub fn is_open(&self, id: u32) -> bool
+        requires { IsSession id }
+        ensures { result ≡ is_open self.now.sessions id }
+    {
+        self.sessions.is_open(id)
+    }
+
+    /// Whether the data session of this id is open.
+    pub fn is_reading(&self, id: u32) -> bool
+        requires { IsSession id }
+        ensures { (core : CoreState) → Agrees self.now core → result ≡ is_reading core.acquisitions id }
+    {
+        self.acquisitions.is_open(id)
     }
 
     /// Lets an event happen, and answers it. Want of memory comes only in the place of a reply or a piece and where an

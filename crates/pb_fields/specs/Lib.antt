@@ -15,3 +15,4 @@ pub mod Numbered
 pub mod Values
 pub mod Spelling
 pub mod Spelled
+pub mod Assigned

@@ -1,4 +1,4 @@
-ghost use Rattle.std.specs.Prelude.{◌≡◌, ◌<◌, ◌≤◌, ◌+◌, ◌-◌, ◌%◌, ◌^◌, ℕ, min, true};
+ghost use Rattle.std.specs.Prelude.{◌≡◌, ◌<◌, ◌+◌, ◌-◌, ◌%◌, ◌^◌, ℕ, min, true};
 ghost use Rattle.pb_buses.specs.Rules.{IsHorizon};
 ghost use Rattle.pb_buses.specs.declared.Inputs.{Inputs};
 

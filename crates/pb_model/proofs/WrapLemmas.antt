@@ -1,7 +1,6 @@
 -- Each kind of block inside a unit keeps its rules.
-use Rattle.std.proofs.Common.{◌≡◌, refl}
+use Rattle.std.proofs.Common.{refl}
 use Rattle.pb_buses.proofs.WrapLemmas.{Wraps}
-use Rattle.pb_model.specs.declared.units.Unit.{Unit as AnyUnit}
 use Rattle.pb_model.specs.declared.units.Unit.TheVariants as units
 use Rattle.pb_model.specs.Units.{rules}
 use Rattle.pb_logic.specs.Lut as luts

@@ -26,11 +26,13 @@ abbrev pub AreKept : Bool → Option PcapSamples → List ℤ → Type 0
 AreKept false samples positions = ⊤
 AreKept true samples positions = IsFurther samples positions
 
+-- by the mode: nothing goes on and ACTIVE is 0, or the run goes on
 abbrev pub Rests : PcapMode → PcapRegisters → Inputs → Type 0
 Rests modes.Idle registers inputs = registers.active ≡ false
 Rests modes.Armed registers inputs = (enable inputs ≡ false) × (registers.active ≡ false)
 Rests modes.Running registers inputs = (enable inputs ≡ true) × AreKept (gate inputs) registers.samples inputs.bus
 
+-- the next tick is calm, and so are all after it
 abbrev pub IsSteady : PcapRegisters → Inputs → Type 0
 IsSteady registers inputs = (registers.trig_before ≡ trig inputs) × Rests registers.mode registers inputs
 

@@ -1,10 +1,10 @@
 -- A PULSE under the same inputs: when a step changes nothing, and for how many steps.
-use Rattle.std.proofs.Common.{◌≡◌, ℕ, zero, suc, ◌+◌, ◌<◌, ◌≤◌, Bool, true, false, refl, sym, ap, subst, ◌∙◌, arith, List, [], Option, Some, None, add-zero}
+use Rattle.std.proofs.Common.{◌≡◌, ℕ, suc, ◌+◌, ◌<◌, ◌≤◌, Bool, true, false, refl, sym, ap, subst, ◌∙◌, arith, List, [], Option, Some, None}
 use Rattle.pb_buses.specs.declared.inputs.Inputs.{Inputs}
 use Rattle.pb_buses.specs.declared.edges.Edge.{Edge}
 use Rattle.pb_buses.specs.declared.edges.Edge.TheVariants as edges
 use Rattle.pb_buses.specs.Edges.{rises, has_edge}
-use Rattle.pb_buses.specs.Rules.{after, IsCalm, AreCalm, IsHorizon}
+use Rattle.pb_buses.specs.Rules.{IsCalm, IsHorizon}
 use Rattle.pb_buses.proofs.RuleLemmas.{never, until}
 use Rattle.pb_pulse.specs.declared.trains.Train.{Train}
 use Rattle.pb_pulse.specs.Queue.{is_any_on, left}

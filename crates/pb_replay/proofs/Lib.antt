@@ -7,3 +7,14 @@ pub mod ScriptLaws
 pub mod ReadSoFar
 pub mod AddedLines
 pub mod ValueLemmas
+pub mod FedLines
+pub mod PendingLemmas
+pub mod ToldLemmas
+pub mod OutputLemmas
+pub mod WaitingLemmas
+pub mod LinesPlayed
+pub mod StepLemmas
+pub mod ScriptPlays
+pub mod TakenPieces
+pub mod CopiedRows
+pub mod ReadersPlayed

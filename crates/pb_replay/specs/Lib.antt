@@ -1,10 +1,15 @@
 pub mod Adding
+pub mod Events
 pub mod Faults
 pub mod Forms
 pub mod Inputs
 pub mod Kept
 pub mod Lines
+pub mod Output
+pub mod Pending
+pub mod Plays
 pub mod Reading
 pub mod Refused
 pub mod Script
 pub mod Steps
+pub mod Waiting

@@ -1,6 +1,6 @@
 -- Words of private helpers: no public clause cites them.
 -- The lines that are read, as the lines of a script, and what reading answers.
-use Rattle.std.specs.Prelude.{◌≡◌, ℕ, pos, ◌<◌, ◌≤◌, ◌^◌, ◌⊎◌, List, [], Some, None, Result, Ok, Err}
+use Rattle.std.specs.Prelude.{◌≡◌, ℕ, pos, ◌<◌, ◌^◌, ◌⊎◌, List, [], Some, None, Result, Ok, Err}
 use Rattle.std.specs.List.{slice_index_or}
 use Rattle.pb_stim.specs.declared.causes.Cause.{Cause}
 use Rattle.pb_replay.specs.declared.lines.ReadDeed.{ReadDeed}

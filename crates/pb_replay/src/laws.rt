@@ -15,3 +15,12 @@ pub fn scripts_are_read_or_refused()
     ensures not_both { (bytes : List ℕ) (lines : List Line) → IsScript bytes lines → first_fault bytes ≡ None }
     ensures one_way { (bytes : List ℕ) (lines others : List Line) → IsScript bytes lines → IsScript bytes others → lines ≡ others }
 {}
+
+ghost use Rattle.pb_replay.specs.Kept.{kept};
+ghost use Rattle.pb_replay.specs.Output.{output};
+ghost use Rattle.pb_replay.specs.Plays.{kept_output};
+
+/// What is kept of a script has the output of all its lines.
+pub fn kept_scripts_have_their_output()
+    ensures { (lines : List Line) → kept_output (kept lines) ≡ output lines }
+{}

@@ -53,3 +53,23 @@ impl Model for Script {
 
     ghost invariant = { λ s. All (IsStep s.bytes) s.steps.items };
 }
+
+impl Script {
+    ghost use Rattle.std.specs.Prelude.{◌≡◌, map, All};
+    ghost use Rattle.pb_replay.specs.Steps.{step_line, IsStep};
+
+    /// The rows of the stimulus.
+    pub(crate) fn stimulus(&self) -> &Stimulus
+        ensures { result.now ≡ self.now.rows }
+    {
+        &self.stimulus
+    }
+
+    /// The bytes of the script, and all that is played.
+    pub(crate) fn steps(&self) -> (&[u8], &[Step])
+        ensures lines { map (step_line result.0.now) result.1.now ≡ self.now.lines }
+        ensures each { All (IsStep result.0.now) result.1.now }
+    {
+        (self.bytes.bytes(), self.steps.as_slice())
+    }
+}

@@ -1,4 +1,4 @@
-ghost use Rattle.std.specs.Prelude.{◌≡◌, ◌<◌, ◌≤◌, ◌+◌, ◌^◌, IfOk, OnOk, IfErr, OnErr};
+ghost use Rattle.std.specs.Prelude.{◌≡◌, ◌<◌, ◌+◌, ◌^◌, IfOk, OnOk, IfErr, OnErr};
 ghost use Rattle.pb_tables.specs.Tables.{IsWritten, IsRefused};
 ghost use Rattle.pb_tables.specs.Computed.{written, answer_of};
 

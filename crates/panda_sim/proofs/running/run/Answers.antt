@@ -1,6 +1,10 @@
 use Rattle.panda_sim.specs.Run.{IsReplay}
-use Rattle.panda_sim.proofs.Causes.{ends_on_no_script, ends_on_script, not_usage}
+use Rattle.panda_sim.proofs.Causes.{ends_on_no_script, ends_on_script, fault_of_all, not_usage}
 use Rattle.panda_sim.proofs.running.run.Goals as goal
+
+pub returns-clause-fault : goal.returns-clause-fault
+returns-clause-fault g c bytes line cause told is =
+    fault_of_all c.run_words.result line cause bytes _ _ _ _ c.run_words.ensures.leaves is told
 
 pub returns-clause-script : goal.returns-clause-script
 returns-clause-script g c bytes words told none =

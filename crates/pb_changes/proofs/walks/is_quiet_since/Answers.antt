@@ -1,6 +1,7 @@
 use Rattle.std.proofs.Common.{◌<◌, ◌≤◌, ◌∙◌, arith}
 use Rattle.std.proofs.lemmas.Bool.{ltb-true}
-use Rattle.pb_changes.specs.Past.{Told, last_place}
+use Rattle.pb_fields.specs.Assigned.{last_place}
+use Rattle.pb_changes.specs.Past.{Told}
 use Rattle.pb_changes.proofs.LineLemmas.{quiet_bits, quiet_posn, quiet_assigned, others_by}
 use Rattle.pb_changes.proofs.walks.is_quiet_since.Goals as goal
 

@@ -1,8 +1,0 @@
-use Rattle.panda_sim.proofs.ToldEvents.{told_ok, left_ok}
-use Rattle.panda_sim.proofs.playing.Player.answer.Goals as goal
-
-pub returns-clause-ok : goal.returns-clause-ok
-returns-clause-ok g c = λ state h. told_ok state c.args.event.now 1 c.apply.result c.requires.session (c.apply.ensures.ok state h)
-
-pub returns-clause-core : goal.returns-clause-core
-returns-clause-core g c = λ state h. left_ok state c.apply.new.self c.args.event.now 1 c.apply.result c.requires.session (c.apply.ensures.core state h)

@@ -1,0 +1,92 @@
+use crate::played::Played;
+use pb_ports::Sink;
+use pb_words::{OutOfMemory, Text};
+
+/// The two ports of the server.
+#[derive(Clone, Copy, Debug, PartialEq, Eq)]
+pub enum Port {
+    /// Commands and their replies.
+    Control,
+    /// What is captured.
+    Data,
+}
+
+/// How many bytes are put together before they are written: 64 KiB.
+const FULL: usize = 65_536;
+
+ghost use Rattle.std.specs.Prelude.{◌≡◌, ℕ, ◌<◌, ◌≤◌, [], ◌++◌, length, OnOk};
+ghost use Rattle.pb_ports.specs.Ports.{Rose};
+ghost use Rattle.pb_replay.specs.Output.{port_text, section};
+ghost use Rattle.pb_replay.specs.Pending.{PlaysOn};
+ghost use Rattle.pb_replay.specs.Plays.{Plays};
+
+/// Adds the answer to a session as a section to those that are still to be written, and writes them where they are many.
+pub(crate) fn write_section<K: Sink>(
+    tick: u64,
+    port: Port,
+    session: u32,
+    bytes: &[u8],
+    pending: &mut Text,
+    output: &mut K,
+) -> Played
+    ensures plays { PlaysOn (section tick port session bytes.now) result pending.old (K.held output.old) pending.new (K.held output.new) }
+    ensures cause { result ≡ Played.WriteFault → Rose (K.faults output.old) (K.faults output.new) }
+    ensures count { K.faults output.old ≤ K.faults output.new }
+{
+    if bytes.is_empty() {
+        return Played::Ok;
+    }
+    match add_section(tick, port, session, bytes, pending) {
+        Ok(()) => {}
+        Err(_) => return Played::OutOfMemory,
+    }
+    if pending.bytes().len() < FULL {
+        return Played::Ok;
+    }
+    write_pending(pending, output)
+}
+
+/// Writes the sections that are still to be written.
+pub(crate) fn write_pending<K: Sink>(pending: &mut Text, output: &mut K) -> Played
+    ensures plays { Plays pending.old result (K.held output.old) (K.held output.new) }
+    ensures none { pending.new ≡ [] }
+    ensures cause { result ≡ Played.WriteFault → Rose (K.faults output.old) (K.faults output.new) }
+    ensures count { K.faults output.old ≤ K.faults output.new }
+{
+    let written = output.write_all(pending.bytes());
+    pending.clear();
+    match written {
+        Ok(()) => Played::Ok,
+        Err(_) => Played::WriteFault,
+    }
+}
+
+/// Adds the section of an answer that isn't empty.
+fn add_section(
+    tick: u64,
+    port: Port,
+    session: u32,
+    bytes: &[u8],
+    text: &mut Text,
+) -> Result<(), OutOfMemory>
+    requires { 0 < length bytes.now }
+    ensures { OnOk result (text.new ≡ text.old ++ section tick port session bytes.now) }
+{
+    text.append_number(tick)?;
+    text.append(letter(port))?;
+    text.append_number(u64::from(session))?;
+    text.append(b" ")?;
+    text.append_number(bytes.len() as u64)?;
+    text.append(b"\n")?;
+    text.append(bytes)
+}
+
+/// The letter of a port, between spaces.
+fn letter(port: Port) -> &'static [u8]
+    ensures { result.now ≡ port_text port }
+{
+    match port {
+        Port::Control => b" C ",
+        Port::Data => b" D ",
+    }
+}
