@@ -1,11 +1,13 @@
 -- Fields added one after the other, and slots cleared one after the other.
-use Rattle.std.proofs.Common.{◌≡◌, ℕ, suc, ◌+◌, ◌-◌, ◌<◌, ◌≤◌, List, ◌++◌, map, slice_set, refl, sym, ap, ◌∙◌, arith, append_assoc}
+use Rattle.std.proofs.Common.{◌≡◌, ℕ, suc, ◌+◌, ◌-◌, ◌<◌, ◌≤◌, List, ◌++◌, map, refl, sym, ap, ◌∙◌, arith, append_assoc}
 use Rattle.std.specs.List.{flat_map, range_with_len}
 use Rattle.std.proofs.lemmas.List.{append-nil}
 use Rattle.pb_fields.specs.declared.Slot.{Slot}
 use Rattle.pb_pcap.specs.declared.Field.{Field}
-use Rattle.pb_config.specs.Settings.{Settings, place}
-use Rattle.pb_config.specs.Capturing.{position_output, own_output, capture_of, captured_position, captured_own, layout_of, capture_slots, cleared, without_captures}
+use Rattle.pb_config.specs.Settings.{Settings}
+use Rattle.pb_config.specs.Capturing.{position_output, own_output, capture_of, captured_position, captured_own, layout_of, capture_slots, cleared}
+use Rattle.pb_config.specs.Numbers.{all_noted}
+use Rattle.pb_config.specs.KeptConfig.{KeptConfig, with_raw, with_clearing}
 
 -- With the fields still to come these are all.
 
@@ -37,21 +39,25 @@ positions entry = capture_of (position_output entry)
 abbrev pub own : ℕ → Slot
 own entry = capture_of (own_output entry)
 
-pub all_slots : (settings : Settings) → cleared (map positions (range_with_len 0 12) ++ map own (range_with_len 32 8)) settings ≡ without_captures settings
+-- these slots are cleared and noted
+abbrev pub with_cleared : List Slot → KeptConfig → KeptConfig
+with_cleared slots kept = record { settings = cleared slots kept.settings; numbers = all_noted kept.numbers slots }
+
+pub all_slots : (kept : KeptConfig) → with_cleared (map positions (range_with_len 0 12) ++ map own (range_with_len 32 8)) kept ≡ with_clearing kept
 unfolding capture_slots
-all_slots settings = refl
+all_slots kept = refl
 
-pub one_cleared : (f : ℕ → Slot) (rest : List Slot) (settings new whole : Settings) (entry end : ℕ) → entry < end →
-    new ≡ record settings { raws = slice_set settings.raws (place (f entry)) 0 } →
-    cleared (map f (range_with_len entry (end - entry)) ++ rest) settings ≡ whole →
-    cleared (map f (range_with_len (entry + 1) (end - (entry + 1))) ++ rest) new ≡ whole
-one_cleared f rest settings new whole entry end h e so =
+pub one_cleared : (f : ℕ → Slot) (rest : List Slot) (kept new whole : KeptConfig) (entry end : ℕ) → entry < end →
+    new ≡ with_raw kept (f entry) 0 →
+    with_cleared (map f (range_with_len entry (end - entry)) ++ rest) kept ≡ whole →
+    with_cleared (map f (range_with_len (entry + 1) (end - (entry + 1))) ++ rest) new ≡ whole
+one_cleared f rest kept new whole entry end h e so =
     let n : suc (end - (entry + 1)) ≡ end - entry = omega arith in
-    ap (cleared (map f (range_with_len (entry + 1) (end - (entry + 1))) ++ rest)) e
-    ∙ (ap (λ m. cleared (map f (range_with_len entry m) ++ rest) settings) n ∙ so)
+    ap (with_cleared (map f (range_with_len (entry + 1) (end - (entry + 1))) ++ rest)) e
+    ∙ (ap (λ m. with_cleared (map f (range_with_len entry m) ++ rest) kept) n ∙ so)
 
-pub all_cleared : (f : ℕ → Slot) (rest : List Slot) (settings whole : Settings) (entry end : ℕ) → end ≤ entry →
-    cleared (map f (range_with_len entry (end - entry)) ++ rest) settings ≡ whole → cleared rest settings ≡ whole
-all_cleared f rest settings whole entry end h so =
+pub all_cleared : (f : ℕ → Slot) (rest : List Slot) (kept whole : KeptConfig) (entry end : ℕ) → end ≤ entry →
+    with_cleared (map f (range_with_len entry (end - entry)) ++ rest) kept ≡ whole → with_cleared rest kept ≡ whole
+all_cleared f rest kept whole entry end h so =
     let none : end - entry ≡ 0 = omega arith in
-    sym (ap (λ n. cleared (map f (range_with_len entry n) ++ rest) settings) none) ∙ so
+    sym (ap (λ n. with_cleared (map f (range_with_len entry n) ++ rest) kept) none) ∙ so

@@ -4,6 +4,7 @@ pub mod CapturingLemmas
 pub mod ChangeLemmas
 pub mod ClearingLemmas
 pub mod TextLemmas
+pub mod NumberLemmas
 pub mod KeptLemmas
 pub mod AssignedLemmas
 pub mod ScaledLemmas

@@ -5,3 +5,5 @@ pub mod Capturing
 pub mod Showing
 pub mod Kept
 pub mod Reached
+pub mod Numbers
+pub mod KeptConfig

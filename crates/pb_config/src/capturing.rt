@@ -5,7 +5,8 @@ ghost use Rattle.pb_pcap.specs.Fields.{units_of, IsNamed};
 ghost use Rattle.pb_config.specs.Settings.{text_of};
 ghost use Rattle.pb_config.specs.Kept.{CanBe};
 ghost use Rattle.pb_config.specs.Showing.{is_scaled};
-ghost use Rattle.pb_config.specs.Capturing.{position_output, own_output, output_of, capture_of, choice_of, captured_position, captured_own, layout_of, without_captures};
+ghost use Rattle.pb_config.specs.Capturing.{position_output, own_output, output_of, capture_of, choice_of, captured_position, captured_own, layout_of};
+ghost use Rattle.pb_config.specs.KeptConfig.{with_clearing};
 
 use crate::configs::Config;
 use crate::scaling::decimal_at;
@@ -19,7 +20,7 @@ impl Config {
     /// What a record holds by the settings: the captured positions by entry, each with its SCALE, OFFSET and UNITS,
     /// then what is captured of TS_START to BITS3.
     pub fn layout(&self) -> Layout
-        ensures { result ≡ layout_of self.now }
+        ensures { result ≡ layout_of self.now.settings }
     {
         let mut layout = Layout::empty();
         for entry in 0..position_bus::USED {
@@ -31,15 +32,15 @@ impl Config {
         layout
     }
 
-    /// Nothing is captured any more: every CAPTURE becomes No.
+    /// Nothing is captured any more: every CAPTURE becomes No, which is an assignment of each.
     pub fn clear_captures(&mut self)
-        ensures { self.new ≡ without_captures self.old }
+        ensures { self.new ≡ with_clearing self.old }
     {
         for entry in 0..position_bus::USED {
-            self.keep_raw(position_slot(entry, CAPTURE), u64::from(capture::NO));
+            self.set(position_slot(entry, CAPTURE), u64::from(capture::NO));
         }
         for entry in entries::TS_START..entries::COUNT {
-            self.keep_raw(own_slot(entry), u64::from(capture::NO));
+            self.set(own_slot(entry), u64::from(capture::NO));
         }
     }
 }
@@ -61,7 +62,7 @@ pub fn output(entry: u8) -> Slot
 fn capture_position(config: &Config, entry: u8, layout: &mut Layout)
     requires named { entry < 12 }
     requires above { All (λ field. field.entry < entry) layout.old }
-    ensures added { layout.new ≡ layout.old ++ captured_position config.now entry }
+    ensures added { layout.new ≡ layout.old ++ captured_position config.now.settings entry }
     ensures below { All (λ field. field.entry < entry + 1) layout.new }
 {
     let choice = choice(config.raw(position_slot(entry, CAPTURE)));
@@ -83,7 +84,7 @@ fn capture_own(config: &Config, entry: u8, layout: &mut Layout)
     requires from { 32 ≤ entry }
     requires named { entry < 40 }
     requires above { All (λ field. field.entry < entry) layout.old }
-    ensures added { layout.new ≡ layout.old ++ captured_own config.now entry }
+    ensures added { layout.new ≡ layout.old ++ captured_own config.now.settings entry }
     ensures below { All (λ field. field.entry < entry + 1) layout.new }
 {
     if config.raw(own_slot(entry)) != u64::from(capture::VALUE) {
@@ -96,7 +97,7 @@ fn capture_own(config: &Config, entry: u8, layout: &mut Layout)
 /// The units of a position.
 fn units(config: &Config, slot: Slot) -> Units
     requires { IsSlot slot }
-    ensures { result ≡ units_of (take 32 (text_of config.now slot)) }
+    ensures { result ≡ units_of (take 32 (text_of config.now.settings slot)) }
 {
     Units::new(first(config.text(slot)))
 }

@@ -1,43 +1,47 @@
-ghost use Rattle.std.specs.Prelude.{true, false, List, ◌≡◌, ◌<◌, ◌≤◌, ◌++◌, length, drop, slice_set, IfOk, IfErr, OnOk, OnErr, IfSome};
+ghost use Rattle.std.specs.Prelude.{true, false, List, ◌≡◌, ◌<◌, ◌≤◌, ◌++◌, length, drop, IfOk, IfErr, OnOk, OnErr, IfSome};
 ghost use Rattle.pb_fields.specs.Slots.{IsSlot, type_at, attribute_at};
 ghost use Rattle.pb_fields.specs.Values.{IsSpelledKind, IsShownKind};
 ghost use Rattle.pb_model.specs.declared.Block.{Block};
 ghost use Rattle.pb_model.specs.Changes.{IsChange};
-ghost use Rattle.pb_config.specs.Settings.{Settings, place, instance_place, raw_of, text_of, kind_now};
-ghost use Rattle.pb_config.specs.Defaults.{fresh, first_raws, first_texts};
-ghost use Rattle.pb_config.specs.Assigning.{told, after_assignment, raw_given, is_assignable, is_units, target, kept_by, with_text};
+ghost use Rattle.pb_fields.specs.Slots.{role_at};
+ghost use Rattle.pb_config.specs.Settings.{raw_of, text_of, kind_now};
+ghost use Rattle.pb_config.specs.Defaults.{first_raws, first_texts};
+ghost use Rattle.pb_config.specs.Assigning.{told, raw_given, is_assignable, is_units, target, kept_by};
+ghost use Rattle.pb_config.specs.Numbers.{number_of};
+ghost use Rattle.pb_config.specs.KeptConfig.{KeptConfig, fresh_config, with_assignment, with_note, with_raw, with_kept};
 ghost use Rattle.pb_config.specs.Kept.{IsKept, CanBe, is_kept};
 ghost use Rattle.pb_config.specs.Showing.{is_line, is_readable, shown_at, is_scaled, scaled_shown};
 
 use crate::changing::{change_of, is_assignable, is_units, target};
 use crate::defaults::{default_at, text_at};
-use crate::places::{instance_place, place, units_slot};
+use crate::numbers::Numbers;
+use crate::places::{PLACES, instance_place, place, units_slot};
 use crate::scaling::scaled;
 use crate::texts::KeptText;
-use pb_fields::{Attribute, FieldKind, FieldType, Slot, attribute, field_type, kind, spell};
+use pb_fields::{Attribute, FieldKind, FieldType, Role, Slot, attribute, field_type, kind, spell};
 use pb_model::Change;
 use pb_words::{Decimal9, OutOfMemory, Refusal, write_decimal};
 use std::alloc::Global;
 use std::marker::Model;
 
-/// The settings of the box. A clause sees the raw values and the kept texts.
+/// The settings of the box, and which assignment was each slot's last. A clause sees the raw values, the kept
+/// texts and the numbers of the assignments.
 #[derive(Drop)]
 pub struct Config {
     /// By the places of the slots.
     raws: Vec<u64>,
     /// By the places of the instances.
     texts: Vec<KeptText>,
+    numbers: Numbers,
 }
 
 impl Model for Config {
-    ghost Value = { Settings };
+    ghost Value = { KeptConfig };
 
-    ghost view = { λ c. record { raws = c.raws.items; texts = c.texts.items } };
+    ghost view = { λ c. record { settings = record { raws = c.raws.items; texts = c.texts.items }; numbers = c.numbers } };
 
     ghost invariant = { λ c. IsKept (record { raws = c.raws.items; texts = c.texts.items }) };
 }
-
-const PLACES: usize = 14_112;
 
 const INSTANCES: usize = 96;
 
@@ -47,29 +51,59 @@ const UNITS_ROOM: usize = 32;
 impl Config {
     /// The settings at first. Want of memory comes here alone.
     pub fn new(alloc: Global) -> Result<Config, OutOfMemory>
-        ensures { IfOk result (λ config. config ≡ fresh) }
+        ensures { IfOk result (λ config. config ≡ fresh_config) }
     {
         let raws = first_raws(alloc, PLACES)?;
         let texts = first_texts(alloc, INSTANCES)?;
-        Ok(Config { raws, texts })
+        let numbers = Numbers::new(alloc)?;
+        Ok(Config {
+            raws,
+            texts,
+            numbers,
+        })
     }
 
     /// Assigns the value to the slot, and answers what changes in the box: nothing where only the
-    /// streams or the printing change.
+    /// streams or the printing change. It is an assignment of the slot that it sets: of a time for its RAW.
     ///
     /// A slot that takes no value is refused as not writeable. A value that the slot doesn't take is
     /// refused as malformed, out of range or unknown. Nothing changes then.
     pub fn assign(&mut self, slot: Slot, value: &[u8]) -> Result<Option<Change>, Refusal>
         requires { IsSlot slot }
-        ensures told { result ≡ told self.old slot value.now }
-        ensures settings { self.new ≡ after_assignment self.old slot value.now }
+        ensures told { result ≡ told self.old.settings slot value.now }
+        ensures config { self.new ≡ with_assignment self.old slot value.now }
         ensures allowed { (blocks : List Block) → IfOk result (λ change. IfSome change (λ told. IsChange blocks told)) }
         ensures same { OnErr result (self.new ≡ self.old) }
     {
         let raw = self.spelled(slot, value)?;
-        self.keep_raw(target(slot), raw);
+        self.set(target(slot), raw);
         self.keep_text(slot, value);
         Ok(change_of(slot, raw))
+    }
+
+    /// The number of the slot's last assignment, counted from 1 over all slots and kept at 2^64 - 1; 0 where
+    /// there is none. Table writes count.
+    pub fn assigned_at(&self, slot: Slot) -> u64
+        requires { IsSlot slot }
+        ensures { result ≡ number_of self.now.numbers slot }
+    {
+        self.numbers.of(slot)
+    }
+
+    /// How many assignments there were, kept at 2^64 - 1.
+    pub fn assignments(&self) -> u64
+        ensures { result ≡ self.now.numbers.count }
+    {
+        self.numbers.count()
+    }
+
+    /// A table was written, which counts as an assignment of it.
+    pub fn note(&mut self, slot: Slot)
+        requires slot { IsSlot slot }
+        requires table { role_at slot ≡ Role.Table }
+        ensures { self.new ≡ with_note self.old slot }
+    {
+        self.numbers.note(slot);
     }
 
     /// Writes what is printed of the slot at the front of `out`, and answers its length. A write field
@@ -78,8 +112,8 @@ impl Config {
         requires slot { IsSlot slot }
         requires line { is_line slot ≡ true }
         requires room { 128 ≤ length out.old }
-        ensures len { IfOk result (λ len. len ≡ length (shown_at self.now slot)) }
-        ensures written { OnOk result (out.new ≡ shown_at self.now slot ++ drop (length (shown_at self.now slot)) out.old) }
+        ensures len { IfOk result (λ len. len ≡ length (shown_at self.now.settings slot)) }
+        ensures written { OnOk result (out.new ≡ shown_at self.now.settings slot ++ drop (length (shown_at self.now.settings slot)) out.old) }
         ensures readable { OnOk result (is_readable slot ≡ true) }
         ensures err { IfErr result (λ refusal. refusal ≡ Refusal.NotReadable) }
         ensures unreadable { OnErr result (is_readable slot ≡ false) }
@@ -94,8 +128,8 @@ impl Config {
         requires slot { IsSlot slot }
         requires scaled { is_scaled slot ≡ true }
         requires room { 128 ≤ length out.old }
-        ensures len { result ≡ length (scaled_shown self.now slot value) }
-        ensures written { out.new ≡ scaled_shown self.now slot value ++ drop (length (scaled_shown self.now slot value)) out.old }
+        ensures len { result ≡ length (scaled_shown self.now.settings slot value) }
+        ensures written { out.new ≡ scaled_shown self.now.settings slot value ++ drop (length (scaled_shown self.now.settings slot value)) out.old }
     {
         let billionths = scaled(self, slot, value);
         write_decimal(Decimal9 { billionths }, out)
@@ -105,7 +139,7 @@ impl Config {
     #[tactic(auto, using(crate::proofs::KindLemmas::target_range, crate::proofs::KindLemmas::units_range), unfolding(crate::specs::Assigning::raw_given))]
     fn spelled(&self, slot: Slot, value: &[u8]) -> Result<u64, Refusal>
         requires { IsSlot slot }
-        ensures given { result ≡ raw_given self.now slot value.now }
+        ensures given { result ≡ raw_given self.now.settings slot value.now }
         ensures range { IfOk result (CanBe (target slot)) }
     {
         if !is_assignable(slot) {
@@ -120,18 +154,20 @@ impl Config {
         }
     }
 
-    pub(crate) fn keep_raw(&mut self, slot: Slot, raw: u64)
+    /// The slot is assigned this raw value.
+    pub(crate) fn set(&mut self, slot: Slot, raw: u64)
         requires slot { IsSlot slot }
         requires range { CanBe slot raw }
-        ensures { self.new ≡ record self.old { raws = slice_set self.old.raws (place slot) raw } }
+        ensures { self.new ≡ with_raw self.old slot raw }
     {
         self.raws[place(slot)] = raw;
+        self.numbers.note(slot);
     }
 
     fn keep_text(&mut self, slot: Slot, value: &[u8])
         requires slot { IsSlot slot }
         requires short { IfSome (kept_by (type_at slot) (attribute_at slot) value.now) (λ _. length value.now ≤ 128) }
-        ensures { self.new ≡ record self.old { texts = with_text self.old.texts (instance_place slot) (kept_by (type_at slot) (attribute_at slot) value.now) } }
+        ensures { self.new ≡ with_kept self.old slot (kept_by (type_at slot) (attribute_at slot) value.now) }
     {
         let at = instance_place(slot);
         match attribute(slot) {
@@ -147,7 +183,7 @@ impl Config {
     /// The raw value of the slot.
     pub(crate) fn raw(&self, slot: Slot) -> u64
         requires { IsSlot slot }
-        ensures raw { result ≡ raw_of self.now slot }
+        ensures raw { result ≡ raw_of self.now.settings slot }
         ensures range { CanBe slot result }
     {
         self.raws[place(slot)]
@@ -157,8 +193,8 @@ impl Config {
     pub(crate) fn put_text(&self, slot: Slot, out: &mut [u8]) -> usize
         requires slot { IsSlot slot }
         requires room { 128 ≤ length out.old }
-        ensures len { result ≡ length (text_of self.now slot) }
-        ensures written { out.new ≡ text_of self.now slot ++ drop (length (text_of self.now slot)) out.old }
+        ensures len { result ≡ length (text_of self.now.settings slot) }
+        ensures written { out.new ≡ text_of self.now.settings slot ++ drop (length (text_of self.now.settings slot)) out.old }
     {
         self.texts[instance_place(slot)].put(out)
     }
@@ -166,7 +202,7 @@ impl Config {
     /// The kept text of the slot's instance.
     pub(crate) fn text(&self, slot: Slot) -> &[u8]
         requires { IsSlot slot }
-        ensures { result.now ≡ text_of self.now slot }
+        ensures { result.now ≡ text_of self.now.settings slot }
     {
         self.texts[instance_place(slot)].bytes()
     }
@@ -175,7 +211,7 @@ impl Config {
     #[tactic(auto, using(crate::proofs::KindLemmas::shown_kind, crate::proofs::KindLemmas::spelled_kind, crate::proofs::KindLemmas::units_few))]
     pub(crate) fn kind(&self, slot: Slot) -> FieldKind
         requires { IsSlot slot }
-        ensures kind { result ≡ kind_now self.now slot }
+        ensures kind { result ≡ kind_now self.now.settings slot }
         ensures shown { is_kept slot ≡ true → is_readable slot ≡ true → IsShownKind result }
         ensures spelled { is_assignable slot ≡ true → is_units (attribute_at slot) ≡ false → IsSpelledKind result }
     {

@@ -1,4 +1,4 @@
-ghost use Rattle.std.specs.Prelude.{true, ◌≡◌, ◌≢◌, ℕ, List, Ok, None, Some};
+ghost use Rattle.std.specs.Prelude.{true, ◌≡◌, ◌≢◌, ℕ, List, [], ◌∷◌, ◌++◌, reverse, Ok, None, Some};
 ghost use Rattle.pb_lut.specs.Functions.{WritesFunction};
 ghost use Rattle.pb_fields.specs.declared.Slot.{Slot};
 ghost use Rattle.pb_fields.specs.declared.FieldType.TheVariants as types;
@@ -8,6 +8,8 @@ ghost use Rattle.pb_config.specs.Defaults.{fresh, default_text};
 ghost use Rattle.pb_config.specs.Assigning.{raw_given, target, kept_by, keeps_text, after_assignment};
 ghost use Rattle.pb_config.specs.Reached.{IsReached};
 ghost use Rattle.std.specs.List.{AllByRecursion};
+ghost use Rattle.pb_config.specs.Numbers.{Numbers, noted, all_noted, AgreesWithAssigned};
+ghost use Rattle.pb_config.specs.KeptConfig.{fresh_config};
 ghost use Rattle.pb_config.specs.Capturing.{IsCapture, capture_slots};
 
 /// No two slots have the same place.
@@ -66,4 +68,15 @@ pub fn kept_function_is_the_number()
 /// To clear what is captured is to assign No to each CAPTURE: none of them refuses it, and nothing changes in the box.
 pub fn clearing_assigns_no()
     ensures { AllByRecursion IsCapture capture_slots }
+{}
+
+/// The kept numbers are those of the list of all assignments, the latest first: at first of none; each that is noted is
+/// one more, and to clear what is captured is one more of each CAPTURE.
+#[tactic(auto, using(crate::proofs::NumberLemmas::none_agree))]
+pub fn numbers_are_of_assignments()
+    ensures first { AgreesWithAssigned fresh_config.numbers [] }
+    ensures more { (numbers : Numbers) (assigned : List Slot) (slot : Slot) → AgreesWithAssigned numbers assigned → IsSlot slot
+        → AgreesWithAssigned (noted numbers slot) (slot ∷ assigned) }
+    ensures cleared { (numbers : Numbers) (assigned : List Slot) → AgreesWithAssigned numbers assigned
+        → AgreesWithAssigned (all_noted numbers capture_slots) (reverse capture_slots ++ assigned) }
 {}

@@ -6,6 +6,9 @@ use pb_fields::Slot;
 use pb_names::ITSELF;
 use pb_names::time::UNITS;
 
+/// How many places of slots there are.
+pub(crate) const PLACES: usize = 14_112;
+
 /// The place of the slot among all slots.
 #[tactic(auto, using(crate::proofs::PlaceLemmas::few))]
 pub(crate) fn place(slot: Slot) -> usize

@@ -10,7 +10,7 @@ use pb_names::pos_out::{OFFSET, SCALE};
 pub(crate) fn scaled(config: &Config, slot: Slot, value: i32) -> i128
     requires slot { IsSlot slot }
     requires scaled { is_scaled slot ≡ true }
-    ensures { result ≡ scaled config.now slot value }
+    ensures { result ≡ scaled config.now.settings slot value }
 {
     let scale = decimal_at(config, slot, SCALE);
     let offset = decimal_at(config, slot, OFFSET);
@@ -41,7 +41,7 @@ pub(crate) fn decimal_at(config: &Config, slot: Slot, attr: u8) -> i64
     requires scaled { is_scaled slot ≡ true }
     requires from { OFFSET ≤ attr }
     requires to { attr ≤ SCALE }
-    ensures decimal { result ≡ decimal_at config.now slot attr }
+    ensures decimal { result ≡ decimal_at config.now.settings slot attr }
     ensures range { unsigned_abs result < 10 ^ 18 }
 {
     config.raw(Slot { attr, ..slot }).cast_signed()

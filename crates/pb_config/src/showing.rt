@@ -57,8 +57,8 @@ pub(crate) fn show(config: &Config, slot: Slot, out: &mut [u8]) -> Result<usize,
     requires slot { IsSlot slot }
     requires line { is_line slot ≡ true }
     requires room { 128 ≤ length out.old }
-    ensures len { IfOk result (λ len. len ≡ length (shown_at config.now slot)) }
-    ensures written { OnOk result (out.new ≡ shown_at config.now slot ++ drop (length (shown_at config.now slot)) out.old) }
+    ensures len { IfOk result (λ len. len ≡ length (shown_at config.now.settings slot)) }
+    ensures written { OnOk result (out.new ≡ shown_at config.now.settings slot ++ drop (length (shown_at config.now.settings slot)) out.old) }
     ensures readable { OnOk result (is_readable slot ≡ true) }
     ensures err { IfErr result (λ refusal. refusal ≡ Refusal.NotReadable) }
     ensures unreadable { OnErr result (is_readable slot ≡ false) }
@@ -91,8 +91,8 @@ fn show_field(config: &Config, slot: Slot, out: &mut [u8]) -> usize
     requires line { is_line_of_field (type_at slot) ≡ true }
     requires readable { is_readable_field (type_at slot) ≡ true }
     requires room { 128 ≤ length out.old }
-    ensures len { result ≡ length (field_shown config.now slot (type_at slot)) }
-    ensures written { out.new ≡ field_shown config.now slot (type_at slot) ++ drop (length (field_shown config.now slot (type_at slot))) out.old }
+    ensures len { result ≡ length (field_shown config.now.settings slot (type_at slot)) }
+    ensures written { out.new ≡ field_shown config.now.settings slot (type_at slot) ++ drop (length (field_shown config.now.settings slot (type_at slot))) out.old }
 {
     match field_type(slot) {
         FieldType::ParamLut => config.put_text(slot, out),
@@ -107,8 +107,8 @@ fn show_raw(config: &Config, slot: Slot, out: &mut [u8]) -> usize
     requires kept { is_kept slot ≡ true }
     requires readable { is_readable slot ≡ true }
     requires room { 128 ≤ length out.old }
-    ensures len { result ≡ length (raw_shown config.now slot) }
-    ensures written { out.new ≡ raw_shown config.now slot ++ drop (length (raw_shown config.now slot)) out.old }
+    ensures len { result ≡ length (raw_shown config.now.settings slot) }
+    ensures written { out.new ≡ raw_shown config.now.settings slot ++ drop (length (raw_shown config.now.settings slot)) out.old }
 {
     pb_fields::show(config.kind(slot), config.raw(slot), out)
 }
@@ -118,8 +118,8 @@ fn show_attribute(config: &Config, slot: Slot, attribute: Attribute, out: &mut [
     requires which { attribute_at slot ≡ Some attribute }
     requires line { is_line_of_attribute attribute ≡ true }
     requires room { 128 ≤ length out.old }
-    ensures len { result ≡ length (attribute_shown config.now slot (type_at slot) attribute) }
-    ensures written { out.new ≡ attribute_shown config.now slot (type_at slot) attribute ++ drop (length (attribute_shown config.now slot (type_at slot) attribute)) out.old }
+    ensures len { result ≡ length (attribute_shown config.now.settings slot (type_at slot) attribute) }
+    ensures written { out.new ≡ attribute_shown config.now.settings slot (type_at slot) attribute ++ drop (length (attribute_shown config.now.settings slot (type_at slot) attribute)) out.old }
 {
     match attribute {
         Attribute::Info => put_front(type_name(field_type(slot)), out),
@@ -167,8 +167,8 @@ fn show_function(config: &Config, slot: Slot, out: &mut [u8]) -> usize
     requires slot { IsSlot slot }
     requires which { attribute_at slot ≡ Some Attribute.LutRaw }
     requires room { 128 ≤ length out.old }
-    ensures len { result ≡ length (attribute_shown config.now slot (type_at slot) Attribute.LutRaw) }
-    ensures written { out.new ≡ attribute_shown config.now slot (type_at slot) Attribute.LutRaw ++ drop (length (attribute_shown config.now slot (type_at slot) Attribute.LutRaw)) out.old }
+    ensures len { result ≡ length (attribute_shown config.now.settings slot (type_at slot) Attribute.LutRaw) }
+    ensures written { out.new ≡ attribute_shown config.now.settings slot (type_at slot) Attribute.LutRaw ++ drop (length (attribute_shown config.now.settings slot (type_at slot) Attribute.LutRaw)) out.old }
 {
     write_hex32(config.raw(field_slot(slot)) as u32, out)
 }

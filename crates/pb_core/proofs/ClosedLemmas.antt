@@ -12,7 +12,8 @@ use Rattle.pb_acquire.specs.Taking.{reader_of, taken_by, take_of, piece_of}
 use Rattle.pb_core.specs.declared.events.Answer.{Answer}
 use Rattle.pb_core.specs.declared.events.Answer.TheVariants as answers
 use Rattle.pb_core.specs.declared.events.Event.TheVariants as events
-use Rattle.pb_core.specs.Sessions.{is_open, told_if_open, piece_answer, taken_answer}
+use Rattle.pb_core.specs.Sessions.{open_of, is_open, told_if_open, piece_answer, taken_answer}
+use Rattle.pb_core.specs.Telling.{reports_to}
 use Rattle.pb_core.specs.Queries.{query_reply}
 use Rattle.pb_core.specs.Assignments.{assignment}
 use Rattle.pb_core.specs.Writing.{table_write}
@@ -27,19 +28,20 @@ not_done (Ok new) e = cc
 not_done (Err refusal) e = cc
 
 -- no command is answered so
-not_said : (core : CoreState) (said : Said) → line_answer core said ≡ answers.Closed → ⊥
-not_said core (Query target) e = not_replied (query_reply core.settings core.box.stands core.sessions core.acquisitions target) e
-not_said core (Assign target value) e = not_done (assignment core.settings core.acquisitions target value) e
-not_said core (Table target append base64 body) e = not_done (table_write core.box.stands target append base64 body) e
-not_said core (Echo text) e = cc
-not_said core (Bad refusal) e = cc
+pub not_said : (core : CoreState) (id : ℕ) (said : Said) → line_answer core id said ≡ answers.Closed → ⊥
+not_said core id (Query target) e =
+    not_replied (query_reply core.settings core.box.stands (open_of core.sessions) core.acquisitions (reports_to core id) target) e
+not_said core id (Assign target value) e = not_done (assignment core.settings core.acquisitions target value) e
+not_said core id (Table target append base64 body) e = not_done (table_write core.box.stands target append base64 body) e
+not_said core id (Echo text) e = cc
+not_said core id (Bad refusal) e = cc
 
 closed_by : (is_there : Bool) (told : Answer) → (told ≡ answers.Closed → ⊥) → (told_if_open is_there told ≡ answers.Closed) ↔ (is_there ≡ false)
 closed_by true told other = (λ e. absurd (other e), λ e. cc)
 closed_by false told other = (λ e. refl, λ e. refl)
 
 pub line_closed : (core : CoreState) (id : ℕ) (bytes : List ℕ) → (answer core (events.Line id bytes) ≡ answers.Closed) ↔ (is_open core.sessions id ≡ false)
-line_closed core id bytes = closed_by (is_open core.sessions id) (line_answer core (command_of bytes)) (not_said core (command_of bytes))
+line_closed core id bytes = closed_by (is_open core.sessions id) (line_answer core id (command_of bytes)) (not_said core id (command_of bytes))
 
 pub bad_closed : (core : CoreState) (id : ℕ) (refusal : Refusal) → (answer core (events.Bad id refusal) ≡ answers.Closed) ↔ (is_open core.sessions id ≡ false)
 bad_closed core id refusal = closed_by (is_open core.sessions id) (answers.Error refusal) (λ e. cc)

@@ -1,9 +1,17 @@
 -- One tick, the ticks that are left, and what commands leave.
-use Rattle.std.proofs.Common.{◌≡◌, ℕ, ℤ, zero, suc, ◌+◌, ◌-◌, ◌<◌, ◌≤◌, max, Bool, true, List, take, Option, Some, None, Result, Ok, Err, IfOk, IfSome, sym, ap, subst, inr, refl, ◌∙◌, arith}
+use Rattle.std.proofs.Common.{◌≡◌, ℕ, ℤ, zero, suc, ◌+◌, ◌-◌, ◌<◌, ◌≤◌, max, Bool, true, false, List, take, Option, Some, None, Result, Ok, Err, IfOk, IfSome, sym, ap, subst, inr, refl, ◌∙◌, arith}
+use Rattle.std.specs.Prelude.{if◌then◌else◌}
 use Rattle.pb_words.specs.declared.Refusal.{Refusal}
+use Rattle.pb_words.specs.declared.Refusal.TheVariants as refusals
+use Rattle.pb_fields.specs.declared.Slot.{Slot}
+use Rattle.pb_fields.specs.declared.Attribute.{Attribute}
+use Rattle.pb_fields.specs.declared.Attribute.TheVariants as attributes
+use Rattle.pb_fields.specs.Slots.{IsSlot, attribute_at}
+use Rattle.pb_tables.specs.Computed.{written}
+use Rattle.pb_model.specs.Tables.{table_of}
 use Rattle.pb_buses.specs.Buses.{IsUnchangedAt}
 use Rattle.pb_stim.specs.declared.Row.{Row}
-use Rattle.pb_grammar.specs.Grammar.{Said, Table}
+use Rattle.pb_grammar.specs.Grammar.{Said}
 use Rattle.pb_model.specs.declared.Change.{Change}
 use Rattle.pb_model.specs.declared.Change.TheVariants as changes
 use Rattle.pb_model.specs.declared.Block.{Block}
@@ -14,7 +22,9 @@ use Rattle.pb_model.specs.Kept.{Kept, stands_of}
 use Rattle.pb_model.specs.Kept as boxes
 use Rattle.pb_model.proofs.AgreeLemmas.{change_agrees, table_agrees}
 use Rattle.pb_config.specs.Settings.{Settings}
-use Rattle.pb_config.specs.Assigning.{assigned, change_of}
+use Rattle.pb_config.specs.Assigning.{raw_given, target, target_by, assigned, change_of}
+use Rattle.pb_config.proofs.NumberLemmas.{one_more_agrees, cleared_agree}
+use Rattle.pb_changes.specs.declared.Group.{Group}
 use Rattle.pb_core.specs.Tick.{stimulated, tick, taken}
 use Rattle.pb_core.specs.Core.{CoreState, ticked, ticks_of_core}
 use Rattle.pb_buses.specs.declared.Emit.{Emit}
@@ -22,14 +32,18 @@ use Rattle.pb_buses.specs.Rules.{is_record}
 use Rattle.pb_acquire.specs.Acquisitions.{AllAcquisitions, room_of}
 use Rattle.pb_acquire.specs.Kept as acquire
 use Rattle.pb_config.specs.Capturing.{without_captures}
-use Rattle.pb_core.specs.Captures.{clears, arms, disarms}
+use Rattle.pb_core.specs.Captures.{CaptureDeed, clears, arms, disarms}
 use Rattle.pb_core.specs.Kept.{KeptCore, Agrees}
 use Rattle.pb_core.specs.Current.{IsCurrent, values_at, with_values}
-use Rattle.pb_words.specs.Refusing.{result_map}
-use Rattle.pb_core.specs.Assignments.{Given, Deed, gives, captures, with_deed, changed_by}
-use Rattle.pb_core.specs.Answer.{done, left_by, written_by, said_answer, line_answer, said_after, advanced}
-use Rattle.pb_core.specs.Helpers.{kept_changed_by, kept_given_by, kept_written_by, kept_with_deed, acquisitions_after, IsLeftBy}
-use Rattle.pb_core.specs.Writing.{Written, table_write}
+use Rattle.pb_words.specs.Refusing.{result_map, result_then}
+use Rattle.pb_core.specs.declared.targets.Named.{Named}
+use Rattle.pb_core.specs.Naming.{named_by}
+use Rattle.pb_core.specs.Sessions.{open_of}
+use Rattle.pb_core.specs.Assignments.{Given, given, gives, captures, with_given, with_deed, changed_by, slot_given}
+use Rattle.pb_core.specs.Answer.{left_by, written_by, said_answer, advanced}
+use Rattle.pb_core.specs.Helpers.{kept_changed_by, kept_with_given, kept_given_by, kept_written_by, kept_with_capture, acquisitions_after, IsLeftBy}
+use Rattle.pb_core.specs.Writing.{left_to, is_table, table_written, slot_written, named_written, table_write}
+use Rattle.pb_core.proofs.MarkLemmas.{same_open}
 use Rattle.pb_core.proofs.LevelLemmas.{values_at-front, values_at-later}
 use Rattle.pb_core.proofs.PutLemmas.{values_agree}
 
@@ -133,6 +147,7 @@ stepped kept core rows values box next emit acquired at same levels agrees once 
     record {
       rows = h.rows;
       settings = h.settings;
+      assigned = h.assigned;
       box =
           subst (λ k. boxes.Agrees k (tick core.rows core.box)) (sym is)
           (subst (λ r. boxes.Agrees (with_values values box) (stimulated r (model.tick core.box))) (same ∙ h.rows) shown);
@@ -154,56 +169,130 @@ changed_agrees : (change : Option Change) (kept : Kept) (box : Box) → boxes.Ag
 changed_agrees None kept box h = h
 changed_agrees (Some change) kept box h = change_agrees kept box change h
 
-deed_agrees : (kept : KeptCore) (core : CoreState) (deed : Deed) (acquired : acquire.Kept) → Agrees kept core →
-    acquire.Agrees acquired (acquisitions_after deed core.acquisitions) → Agrees (kept_with_deed kept deed acquired) (with_deed core deed)
-deed_agrees kept core (gives new) acquired h a =
+-- the slot that an assignment sets is in the catalogue
+target_by_there : (o : Option Attribute) (slot : Slot) → IsSlot slot → IsSlot (target_by o slot)
+target_by_there None slot s = s
+target_by_there (Some attributes.TimeRaw) slot s =
+    record { in_blocks = s.in_blocks; from_one = s.from_one; in_count = s.in_count; in_fields = s.in_fields; in_attributes = omega arith }
+target_by_there (Some _) slot s = s
+
+-- a value that was given
+
+given_agrees : (kept : KeptCore) (core : CoreState) (new : Given) → IsSlot new.slot → Agrees kept core → Agrees (kept_with_given kept new) (with_given core new)
+given_agrees kept core new s h =
     record {
       rows = h.rows;
-      settings = ap (λ (s : Settings). assigned s new.slot new.text new.raw) h.settings;
+      settings = ap (λ (x : Settings). assigned x new.slot new.text new.raw) h.settings;
+      assigned =
+          one_more_agrees kept.config.numbers core.assigned (target new.slot) h.assigned
+          (target_by_there (attribute_at new.slot) new.slot s);
       box = changed_agrees (change_of new.slot new.raw) kept.box core.box h.box;
-      sessions = h.sessions;
-      acquisitions = a;
-    }
-deed_agrees kept core (captures clears) acquired h a =
-    record { rows = h.rows; settings = ap without_captures h.settings; box = h.box; sessions = h.sessions; acquisitions = a }
-deed_agrees kept core (captures (arms layout)) acquired h a =
-    record { rows = h.rows; settings = h.settings; box = change_agrees kept.box core.box (changes.Arm (room_of layout)) h.box; sessions = h.sessions; acquisitions = a }
-deed_agrees kept core (captures disarms) acquired h a =
-    record { rows = h.rows; settings = h.settings; box = change_agrees kept.box core.box changes.Disarm h.box; sessions = h.sessions; acquisitions = a }
-
-pub left_agrees : (kept next : KeptCore) (core : CoreState) (r : Result Deed Refusal) → Agrees kept core → IsLeftBy kept next core.acquisitions r →
-    Agrees next (left_by core r)
-left_agrees kept next core (Err refusal) h is = subst (λ k. Agrees k core) (sym is) h
-left_agrees kept next core (Ok deed) h is =
-    subst (λ k. Agrees k (with_deed core deed)) (sym is.kept) (deed_agrees kept core deed next.acquisitions h is.acquisitions)
-
-pub written_agrees : (kept : KeptCore) (core : CoreState) (r : Result Written Refusal) → Agrees kept core → Agrees (kept_written_by kept r) (written_by core r)
-written_agrees kept core (Err refusal) h = h
-written_agrees kept core (Ok new) h =
-    record {
-      rows = h.rows;
-      settings = h.settings;
-      box = table_agrees kept.box core.box new.number new.words h.box;
       sessions = h.sessions;
       acquisitions = h.acquisitions;
     }
 
--- so what is kept after a table write is that of the core after it
-pub wrote : (kept next : KeptCore) (core : CoreState) (said : Said) (target : List ℕ) (append base64 : Bool) (body : List ℕ) →
-    said ≡ Table target append base64 body → next ≡ kept_written_by kept (table_write (stands_of kept.box) target append base64 body) →
-    Agrees kept core → Agrees next (said_after core said)
-wrote kept next core said target append base64 body e is h =
-    let r : Result Written Refusal = table_write core.box.stands target append base64 body in
-    let same : next ≡ kept_written_by kept r = is ∙ ap (λ b. kept_written_by kept (table_write b target append base64 body)) h.box.stands in
-    subst (λ s. Agrees next (said_after core s)) (sym e) (subst (λ k. Agrees k (written_by core r)) (sym same) (written_agrees kept core r h))
+given_by : (kept : KeptCore) (core : CoreState) (id : ℕ) (slot : Slot) (text : List ℕ) (r : Result ℕ Refusal) → IsSlot slot → Agrees kept core →
+    Agrees (kept_given_by kept (result_map (given slot text) r)) (left_by core id (result_map gives (result_map (given slot text) r)))
+given_by kept core id slot text (Ok raw) s h = given_agrees kept core (given slot text raw) s h
+given_by kept core id slot text (Err refusal) s h = h
+
+pub set_agrees : (kept next : KeptCore) (core : CoreState) (id : ℕ) (slot : Slot) (text : List ℕ) → IsSlot slot →
+    next ≡ kept_given_by kept (slot_given kept.config.settings text slot) → Agrees kept core →
+    Agrees next (left_by core id (result_map gives (slot_given core.settings text slot)))
+set_agrees kept next core id slot text s e h =
+    subst (λ (x : Settings). Agrees next (left_by core id (result_map gives (slot_given x text slot)))) h.settings
+    (subst (λ k. Agrees k (left_by core id (result_map gives (slot_given kept.config.settings text slot)))) (sym e)
+    (given_by kept core id slot text (raw_given kept.config.settings slot text) s h))
+
+-- a command of capture
+
+capture_agrees : (kept : KeptCore) (core : CoreState) (id : ℕ) (deed : CaptureDeed) (acquired : acquire.Kept) → Agrees kept core →
+    acquire.Agrees acquired (acquisitions_after deed core.acquisitions) → Agrees (kept_with_capture kept deed acquired) (with_deed core id (captures deed))
+capture_agrees kept core id clears acquired h a =
+    record {
+      rows = h.rows;
+      settings = ap without_captures h.settings;
+      assigned = cleared_agree kept.config.numbers core.assigned h.assigned;
+      box = h.box;
+      sessions = h.sessions;
+      acquisitions = a;
+    }
+capture_agrees kept core id (arms layout) acquired h a =
+    record {
+      rows = h.rows;
+      settings = h.settings;
+      assigned = h.assigned;
+      box = change_agrees kept.box core.box (changes.Arm (room_of layout)) h.box;
+      sessions = h.sessions;
+      acquisitions = a;
+    }
+capture_agrees kept core id disarms acquired h a =
+    record {
+      rows = h.rows;
+      settings = h.settings;
+      assigned = h.assigned;
+      box = change_agrees kept.box core.box changes.Disarm h.box;
+      sessions = h.sessions;
+      acquisitions = a;
+    }
+
+pub captured_agrees : (kept next : KeptCore) (core : CoreState) (id : ℕ) (r : Result CaptureDeed Refusal) → Agrees kept core →
+    IsLeftBy kept next core.acquisitions r → Agrees next (left_by core id (result_map captures r))
+captured_agrees kept next core id (Err refusal) h is = subst (λ k. Agrees k core) (sym is) h
+captured_agrees kept next core id (Ok deed) h is =
+    subst (λ k. Agrees k (with_deed core id (captures deed))) (sym is.kept) (capture_agrees kept core id deed next.acquisitions h is.acquisitions)
+
+-- a table that was written
+
+written_agrees : (kept : KeptCore) (core : CoreState) (slot : Slot) (left : Result (List ℕ) Refusal) → IsSlot slot → Agrees kept core →
+    Agrees (kept_written_by kept (result_map (left_to slot) left)) (written_by core (result_map (left_to slot) left))
+written_agrees kept core slot (Err refusal) s h = h
+written_agrees kept core slot (Ok words) s h =
+    record {
+      rows = h.rows;
+      settings = h.settings;
+      assigned = one_more_agrees kept.config.numbers core.assigned slot h.assigned s;
+      box = table_agrees kept.box core.box slot.instance words h.box;
+      sessions = h.sessions;
+      acquisitions = h.acquisitions;
+    }
+
+-- what is kept after a table write is that of the core after it
+pub wrote : (kept next : KeptCore) (core : CoreState) (slot : Slot) (append base64 : Bool) (body : List ℕ) → IsSlot slot → is_table slot ≡ true →
+    next ≡ kept_written_by kept (table_written (stands_of kept.box) append base64 body slot) → Agrees kept core →
+    Agrees next (written_by core (slot_written core.box.stands append base64 body slot))
+wrote kept next core slot append base64 body s t is h =
+    let same : next ≡ kept_written_by kept (table_written core.box.stands append base64 body slot) =
+    is ∙ ap (λ b. kept_written_by kept (table_written b append base64 body slot)) h.box.stands in
+    let here : slot_written core.box.stands append base64 body slot ≡ table_written core.box.stands append base64 body slot =
+    ap (λ b. if b then table_written core.box.stands append base64 body slot else Err refusals.NotWriteable) t in
+    subst (λ r. Agrees next (written_by core r)) (sym here)
+    (subst (λ k. Agrees k (written_by core (table_written core.box.stands append base64 body slot))) (sym same)
+    (written_agrees kept core slot (written (table_of core.box.stands.blocks slot.instance) append base64 body) s h))
+
+-- nothing is written where the slot is no table
+pub wrote_nothing : (kept : KeptCore) (core : CoreState) (slot : Slot) (append base64 : Bool) (body : List ℕ) → is_table slot ≡ false →
+    Agrees kept core → Agrees kept (written_by core (slot_written core.box.stands append base64 body slot))
+wrote_nothing kept core slot append base64 body t h =
+    let here : slot_written core.box.stands append base64 body slot ≡ Err refusals.NotWriteable =
+    ap (λ b. if b then table_written core.box.stands append base64 body slot else Err refusals.NotWriteable) t in
+    subst (λ r. Agrees kept (written_by core r)) (sym here) h
+
+-- to what a target names
+pub wrote_named : (next : KeptCore) (core : CoreState) (target : List ℕ) (named : Named) (append base64 : Bool) (body : List ℕ) → named_by target ≡ Ok named →
+    Agrees next (written_by core (named_written core.box.stands append base64 body named)) →
+    Agrees next (written_by core (table_write core.box.stands target append base64 body))
+wrote_named next core target named append base64 body e h =
+    subst (λ r. Agrees next (written_by core (result_then r (named_written core.box.stands append base64 body)))) (sym e) h
 
 -- what is told by what is kept is told by the core
-pub answers_agree : (kept : KeptCore) (core : CoreState) (said : Said) → Agrees kept core →
-    said_answer kept.settings (stands_of kept.box) kept.sessions core.acquisitions said ≡ line_answer core said
-answers_agree kept core said h =
-    ap (λ s. said_answer s (stands_of kept.box) kept.sessions core.acquisitions said) h.settings
-    ∙ (ap (λ b. said_answer core.settings b kept.sessions core.acquisitions said) h.box.stands
-    ∙ ap (λ x. said_answer core.settings core.box.stands x core.acquisitions said) h.sessions)
+pub answers_agree : (kept : KeptCore) (core : CoreState) (reports : Option Group → List ℕ) (said : Said) → Agrees kept core →
+    said_answer kept.config.settings (stands_of kept.box) (open_of kept.sessions) core.acquisitions reports said
+    ≡ said_answer core.settings core.box.stands (open_of core.sessions) core.acquisitions reports said
+answers_agree kept core reports said h =
+    ap (λ s. said_answer s (stands_of kept.box) (open_of kept.sessions) core.acquisitions reports said) h.settings
+    ∙ (ap (λ b. said_answer core.settings b (open_of kept.sessions) core.acquisitions reports said) h.box.stands
+    ∙ ap (λ x. said_answer core.settings core.box.stands x core.acquisitions reports said) (same_open kept.sessions core.sessions h.sessions))
 
 -- a change leaves the tick
 pub tick_stays : (change : Change) (kept : Kept) → (kept_changed_by (Some change) kept).tick ≡ kept.tick
@@ -215,19 +304,3 @@ tick_stays changes.Disarm kept = refl
 pub told_change : (blocks : List Block) (told : Result (Option Change) Refusal) (change : Change) → told ≡ Ok (Some change) →
     IfOk told (λ t. IfSome t (λ one. IsChange blocks one)) → IsChange blocks change
 told_change blocks told change e h = subst (λ t. IfOk t (λ x. IfSome x (λ one. IsChange blocks one))) e h
-
--- what a given value is answered and leaves, as a deed
-
-pub given_done : (r : Result Given Refusal) → done r ≡ done (result_map gives r)
-given_done (Ok new) = refl
-given_done (Err refusal) = refl
-
-pub given_left : (old new : KeptCore) (all : AllAcquisitions) (r : Result Given Refusal) → new ≡ kept_given_by old r →
-    acquire.Agrees old.acquisitions all → IsLeftBy old new all (result_map gives r)
-given_left old new all (Ok g) e a =
-    let same : old.acquisitions ≡ new.acquisitions = ap (λ (k : KeptCore). k.acquisitions) (sym e) in
-    record {
-      kept = e ∙ ap (λ x. kept_with_deed old (gives g) x) same;
-      acquisitions = subst (λ x. acquire.Agrees x all) same a;
-    }
-given_left old new all (Err refusal) e a = e

@@ -1,39 +1,121 @@
 -- What an assignment to a slot is answered and leaves, and the lines of what is captured.
-use Rattle.std.proofs.Common.{◌≡◌, ℕ, ◌+◌, ◌<◌, List, [], ◌++◌, length, map, slice_index_or, Ok, sym, ap, subst, ◌∙◌}
+use Rattle.std.proofs.Common.{◌≡◌, ℕ, ◌+◌, ◌<◌, Bool, List, [], ◌++◌, length, map, slice_index_or, Option, Result, Ok, Err, IfOk, OnOk, OnErr, refl, sym, ap, subst, ◌∙◌}
 use Rattle.std.proofs.lemmas.List.{get_or-map, length-map}
-use Rattle.pb_words.specs.Refusing.{result_then}
+use Rattle.pb_words.specs.declared.Refusal.{Refusal}
+use Rattle.pb_words.specs.Refusing.{result_then, result_map}
 use Rattle.pb_fields.specs.declared.Slot.{Slot}
+use Rattle.pb_fields.specs.Slots.{IsSlot}
 use Rattle.pb_pcap.specs.declared.Field.{Field}
-use Rattle.pb_acquire.specs.Acquisitions.{AllAcquisitions}
-use Rattle.pb_acquire.specs.Kept as acquire
-use Rattle.pb_config.specs.Settings.{Settings}
 use Rattle.pb_replies.specs.Replies.{listed}
 use Rattle.pb_replies.proofs.ListedLemmas.{after, one_more}
 use Rattle.pb_core.specs.declared.events.Answer.{Answer}
+use Rattle.pb_core.specs.declared.targets.Named.{Named}
 use Rattle.pb_core.specs.declared.targets.Named.TheVariants as names
+use Rattle.pb_changes.specs.declared.Group.{Group}
+use Rattle.pb_core.specs.Core.{CoreState}
 use Rattle.pb_core.specs.Naming.{named_by}
-use Rattle.pb_core.specs.Captures.{capture_line}
-use Rattle.pb_core.specs.Assignments.{slot_given, named_given, assignment}
-use Rattle.pb_core.specs.Answer.{done}
-use Rattle.pb_core.specs.Kept.{KeptCore}
-use Rattle.pb_core.specs.Helpers.{kept_given_by, IsLeftBy}
-use Rattle.pb_core.proofs.CoreLemmas.{given_done, given_left}
+use Rattle.pb_config.specs.Capturing.{layout_of}
+use Rattle.pb_core.specs.Captures.{CaptureDeed, without_value, arming, capture_line}
+use Rattle.pb_core.specs.Assignments.{Given, gives, captures, resets, reset_given, slot_given, named_given, assignment}
+use Rattle.pb_core.specs.Answer.{done, left_by}
+use Rattle.pb_core.specs.Kept.{KeptCore, Agrees}
+use Rattle.pb_core.specs.Helpers.{IsThere, kept_given_by, IsLeftBy}
+use Rattle.pb_core.proofs.CoreLemmas.{set_agrees, captured_agrees}
 
--- a value that is given to a slot is answered as the assignment is
-pub value_done : (settings : Settings) (all : AllAcquisitions) (target value : List ℕ) (slot : Slot) (told : Answer) →
-    named_by target ≡ Ok (names.Value slot) → told ≡ done (slot_given settings value slot) → told ≡ done (assignment settings all target value)
-value_done settings all target value slot told e h =
-    h
-    ∙ (given_done (slot_given settings value slot)
-    ∙ ap (λ r. done (result_then r (named_given settings all value))) (sym e))
+-- What an assignment to what is named is answered and leaves.
 
--- and leaves what the assignment does
-pub value_left : (old new : KeptCore) (all : AllAcquisitions) (target value : List ℕ) (slot : Slot) →
-    named_by target ≡ Ok (names.Value slot) → new ≡ kept_given_by old (slot_given old.settings value slot) → acquire.Agrees old.acquisitions all →
-    IsLeftBy old new all (assignment old.settings all target value)
-value_left old new all target value slot e h a =
-    subst (λ r. IsLeftBy old new all (result_then r (named_given old.settings all value))) (sym e)
-    (given_left old new all (slot_given old.settings value slot) h a)
+given_done : (r : Result Given Refusal) → done r ≡ done (result_map gives r)
+given_done (Ok new) = refl
+given_done (Err refusal) = refl
+
+pub captured_done : (r : Result CaptureDeed Refusal) → done r ≡ done (result_map captures r)
+captured_done (Ok new) = refl
+captured_done (Err refusal) = refl
+
+reset_done : (group : Option Group) (r : Result Bool Refusal) → done r ≡ done (result_map (resets group) r)
+reset_done group (Ok all) = refl
+reset_done group (Err refusal) = refl
+
+-- the answer to what is named is that to the target
+pub named_done : (core : CoreState) (target value : List ℕ) (named : Named) (told : Answer) → named_by target ≡ Ok named →
+    told ≡ done (named_given core.settings core.acquisitions value named) → told ≡ done (assignment core.settings core.acquisitions target value)
+named_done core target value named told e h =
+    h ∙ ap (λ r. done (result_then r (named_given core.settings core.acquisitions value))) (sym e)
+
+-- and so is what is left
+pub named_left : (core : CoreState) (next : KeptCore) (id : ℕ) (target value : List ℕ) (named : Named) → named_by target ≡ Ok named →
+    Agrees next (left_by core id (named_given core.settings core.acquisitions value named)) →
+    Agrees next (left_by core id (assignment core.settings core.acquisitions target value))
+named_left core next id target value named e h =
+    subst (λ r. Agrees next (left_by core id (result_then r (named_given core.settings core.acquisitions value)))) (sym e) h
+
+pub value_done : (kept : KeptCore) (core : CoreState) (target value : List ℕ) (slot : Slot) (told : Answer) → Agrees kept core →
+    named_by target ≡ Ok (names.Value slot) → told ≡ done (slot_given kept.config.settings value slot) →
+    told ≡ done (assignment core.settings core.acquisitions target value)
+value_done kept core target value slot told h e d =
+    named_done core target value (names.Value slot) told e
+    (d ∙ (ap (λ s. done (slot_given s value slot)) h.settings ∙ given_done (slot_given core.settings value slot)))
+
+pub value_left : (kept next : KeptCore) (core : CoreState) (id : ℕ) (target value : List ℕ) (slot : Slot) → IsSlot slot → Agrees kept core →
+    named_by target ≡ Ok (names.Value slot) → next ≡ kept_given_by kept (slot_given kept.config.settings value slot) →
+    Agrees next (left_by core id (assignment core.settings core.acquisitions target value))
+value_left kept next core id target value slot s h e is =
+    named_left core next id target value (names.Value slot) e (set_agrees kept next core id slot value s is h)
+
+pub captures_done : (core : CoreState) (target value : List ℕ) (named : Named) (told : Answer) (r : Result CaptureDeed Refusal) →
+    named_by target ≡ Ok named → named_given core.settings core.acquisitions value named ≡ result_map captures r → told ≡ done r →
+    told ≡ done (assignment core.settings core.acquisitions target value)
+captures_done core target value named told r e is d = named_done core target value named told e (d ∙ (captured_done r ∙ ap done (sym is)))
+
+pub captures_left : (kept next : KeptCore) (core : CoreState) (id : ℕ) (target value : List ℕ) (named : Named) (r : Result CaptureDeed Refusal) →
+    named_by target ≡ Ok named → named_given core.settings core.acquisitions value named ≡ result_map captures r → Agrees kept core →
+    IsLeftBy kept next core.acquisitions r → Agrees next (left_by core id (assignment core.settings core.acquisitions target value))
+captures_left kept next core id target value named r e is h left =
+    named_left core next id target value named e
+    (subst (λ d. Agrees next (left_by core id d)) (sym is) (captured_agrees kept next core id r h left))
+
+pub resets_done : (core : CoreState) (target value : List ℕ) (group : Option Group) (told : Answer) → named_by target ≡ Ok (names.Changes group) →
+    told ≡ done (reset_given value) → told ≡ done (assignment core.settings core.acquisitions target value)
+resets_done core target value group told e d =
+    named_done core target value (names.Changes group) told e (d ∙ reset_done group (reset_given value))
+
+pub resets_left : (core : CoreState) (next : KeptCore) (id : ℕ) (target value : List ℕ) (group : Option Group) → named_by target ≡ Ok (names.Changes group) →
+    Agrees next (left_by core id (result_map (resets group) (reset_given value))) →
+    Agrees next (left_by core id (assignment core.settings core.acquisitions target value))
+resets_left core next id target value group e h = named_left core next id target value (names.Changes group) e h
+
+-- arming, by what is kept
+pub arming_is : (kept : KeptCore) (core : CoreState) (value : List ℕ) → Agrees kept core →
+    named_given core.settings core.acquisitions value names.Arming
+    ≡ result_map captures (without_value value (arming core.acquisitions (layout_of kept.config.settings)))
+arming_is kept core value h = ap (λ s. result_map captures (without_value value (arming core.acquisitions (layout_of s)))) (sym h.settings)
+
+pub armed_done : (kept : KeptCore) (core : CoreState) (target value : List ℕ) → Agrees kept core → named_by target ≡ Ok names.Arming →
+    done (without_value value (arming core.acquisitions (layout_of kept.config.settings))) ≡ done (assignment core.settings core.acquisitions target value)
+armed_done kept core target value h e =
+    captures_done core target value names.Arming _ (without_value value (arming core.acquisitions (layout_of kept.config.settings))) e (arming_is kept core value h) refl
+
+-- what follows from an Ok, or from an error
+
+pub where_ok : {X Y : Type 0} (r : Result X Y) (A B : Type 0) → (A → B) → OnOk r A → OnOk r B
+where_ok (Ok x) A B f h = f h
+where_ok (Err y) A B f h = tt
+
+pub where_err : {X Y : Type 0} (r : Result X Y) (A B : Type 0) → (A → B) → OnErr r A → OnErr r B
+where_err (Ok x) A B f h = tt
+where_err (Err y) A B f h = f h
+
+-- the slot that is named is in the catalogue
+pub slot_there : (r : Result Named Refusal) (slot : Slot) → r ≡ Ok (names.Value slot) → IfOk r IsThere → IsSlot slot
+slot_there r slot e h = subst (λ x. IfOk x IsThere) e h
+
+pub always_ok : {X Y : Type 0} (r : Result X Y) (B : Type 0) → B → OnOk r B
+always_ok (Ok x) B b = b
+always_ok (Err y) B b = tt
+
+pub always_err : {X Y : Type 0} (r : Result X Y) (B : Type 0) → B → OnErr r B
+always_err (Ok x) B b = tt
+always_err (Err y) B b = b
 
 -- the line of one more field
 pub one_field : (layout : List Field) (i : ℕ) (text next : List ℕ) (field : Field) → i < length layout →

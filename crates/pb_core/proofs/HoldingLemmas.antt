@@ -42,9 +42,10 @@ use Rattle.pb_config.specs.Capturing.{IsCapture, capture_slots, cleared, layout_
 use Rattle.pb_config.proofs.ClearingLemmas.{all_captures}
 use Rattle.pb_core.specs.Captures.{CaptureDeed, clears, arms, disarms, without_value, arming, disarming}
 use Rattle.pb_core.specs.Naming.{named_by}
-use Rattle.pb_core.specs.Assignments.{given, gives, captures, with_given, changed_by, named_given}
+use Rattle.pb_changes.specs.declared.Group.{Group}
+use Rattle.pb_core.specs.Assignments.{given, gives, captures, resets, reset_given, with_given, changed_by, named_given}
 use Rattle.pb_core.specs.Writing.{Written, table_write}
-use Rattle.pb_core.specs.Answer.{left_by, written_by, said_after, after, after_all}
+use Rattle.pb_core.specs.Answer.{left_by, written_by, asked_of, said_after, after, after_all}
 use Rattle.pb_core.specs.Sessions.{is_open}
 use Rattle.pb_core.specs.Holding.{HasSettings}
 use Rattle.pb_core.proofs.ReachedLemmas.{IsSlotThere, IsFound, found_by}
@@ -111,6 +112,10 @@ record Holds (core : CoreState) : Type 0 where
   reached : IsReached core.settings
   whole : IsWhole core.box.stands.blocks core.box.stands.settings
   has : HasSettings core
+
+record BoxHolds (settings : Settings) (box : Box) : Type 0 where
+  whole : IsWhole box.stands.blocks box.stands.settings
+  has : (u : Slot) → IsKept u → HasValue box u (raw_of settings u)
 
 refused_test : (b : Bool) (x : Result ℕ Refusal) (raw : ℕ) → b ≡ false → (if not b then Err refusals.NotWriteable else x) ≡ Ok raw → ⊥
 refused_test true x raw n h = cc
@@ -179,10 +184,10 @@ assigned_holds core slot text raw e s h =
         sym (ap (λ told. raw_of (after_by core.settings slot text told) u) e) ∙ others_stay core.settings slot u text s k.in_catalogue ne in
         subst (HasValue core.box u) (sym same) (h.has u k)
 
-slot_holds : (core : CoreState) (slot : Slot) (text : List ℕ) (told : Result ℕ Refusal) → raw_given core.settings slot text ≡ told → IsSlot slot → Holds core →
-    Holds (left_by core (result_map gives (result_map (given slot text) told)))
-slot_holds core slot text (Err refusal) e s h = h
-slot_holds core slot text (Ok raw) e s h = assigned_holds core slot text raw e s h
+slot_holds : (core : CoreState) (id : ℕ) (slot : Slot) (text : List ℕ) (told : Result ℕ Refusal) → raw_given core.settings slot text ≡ told → IsSlot slot → Holds core →
+    Holds (left_by core id (result_map gives (result_map (given slot text) told)))
+slot_holds core id slot text (Err refusal) e s h = h
+slot_holds core id slot text (Ok raw) e s h = assigned_holds core slot text raw e s h
 
 with_settings : CoreState → Settings → CoreState
 with_settings core settings = record core { settings = settings }
@@ -199,61 +204,70 @@ cleared_holds [] core all h = h
 cleared_holds (slot ∷ slots) core all h =
     let one : Holds (with_given core (given slot (codes "No") 0)) =
     assigned_holds core slot (codes "No") 0 (all.0.told core.settings) all.0.in_catalogue h in
-    let same : Holds (with_settings core (assigned core.settings slot (codes "No") 0)) =
-    subst (λ b. Holds (record core { settings = assigned core.settings slot (codes "No") 0; box = b }))
-    (quiet_given (changes_box (attribute_at slot)) core slot all.0.quiet) one in
+    let same : BoxHolds (assigned core.settings slot (codes "No") 0) core.box =
+    subst (BoxHolds (assigned core.settings slot (codes "No") 0))
+    (quiet_given (changes_box (attribute_at slot)) core slot all.0.quiet) (record { whole = one.whole; has = one.has }) in
     cleared_holds slots (with_settings core (record { raws = slice_set core.settings.raws (place slot) 0; texts = core.settings.texts })) all.1
-    (subst (λ s. Holds (with_settings core s)) (all.0.left core.settings) same)
+    (subst (λ s. Holds (with_settings core s)) (all.0.left core.settings) (record { reached = one.reached; whole = same.whole; has = same.has }))
 
-deed_holds : (core : CoreState) (deed : Result CaptureDeed Refusal) → Holds core → Holds (left_by core (result_map captures deed))
+deed_holds : (core : CoreState) (id : ℕ) (deed : Result CaptureDeed Refusal) → Holds core → Holds (left_by core id (result_map captures deed))
 unfolding with_settings
-deed_holds core (Ok clears) h = cleared_holds capture_slots core all_captures h
-deed_holds core (Ok (arms layout)) h =
+deed_holds core id (Ok clears) h =
+    let cleared : Holds (with_settings core (cleared capture_slots core.settings)) = cleared_holds capture_slots core all_captures h in
+    record { reached = cleared.reached; whole = cleared.whole; has = cleared.has }
+deed_holds core id (Ok (arms layout)) h =
     record {
       reached = h.reached;
       whole = whole_armed core.box (room_of layout) h.whole;
       has = λ u k. has_armed core.box u (raw_of core.settings u) (h.has u k) h.whole (room_of layout);
     }
-deed_holds core (Ok disarms) h =
+deed_holds core id (Ok disarms) h =
     record {
       reached = h.reached;
       whole = whole_disarmed core.box h.whole;
       has = λ u k. has_disarmed core.box u (raw_of core.settings u) (h.has u k) h.whole;
     }
-deed_holds core (Err refusal) h = h
+deed_holds core id (Err refusal) h = h
 
-left_holds : (core : CoreState) (text : List ℕ) (r : Result Named Refusal) → IsFound r → Holds core →
-    Holds (left_by core (result_then r (named_given core.settings core.acquisitions text)))
+reset_holds : (core : CoreState) (id : ℕ) (group : Option Group) (r : Result Bool Refusal) → Holds core →
+    Holds (left_by core id (result_map (resets group) r))
+reset_holds core id group (Ok all) h = record { reached = h.reached; whole = h.whole; has = h.has }
+reset_holds core id group (Err refusal) h = h
+
+asked_holds : (core : CoreState) (id : ℕ) (r : Result Named Refusal) → Holds core → Holds (asked_of core id r)
+asked_holds core id (Ok (names.Changes group)) h = record { reached = h.reached; whole = h.whole; has = h.has }
+asked_holds core id (Err refusal) h = h
+asked_holds core id (Ok _) h = h
+
+left_holds : (core : CoreState) (id : ℕ) (text : List ℕ) (r : Result Named Refusal) → IsFound r → Holds core →
+    Holds (left_by core id (result_then r (named_given core.settings core.acquisitions text)))
 unfolding IsFound IsSlotThere
-left_holds core text (Err refusal) f h = h
-left_holds core text (Ok (names.Value slot)) f h = slot_holds core slot text (raw_given core.settings slot text) refl f h
-left_holds core text (Ok names.Captures) f h = deed_holds core (without_value text (Ok clears)) h
-left_holds core text (Ok names.Arming) f h = deed_holds core (without_value text (arming core.acquisitions (layout_of core.settings))) h
-left_holds core text (Ok names.Disarming) f h = deed_holds core (without_value text (disarming core.acquisitions)) h
-left_holds core text (Ok named) f h = h
+left_holds core id text (Err refusal) f h = h
+left_holds core id text (Ok (names.Value slot)) f h = slot_holds core id slot text (raw_given core.settings slot text) refl f h
+left_holds core id text (Ok (names.Changes group)) f h = reset_holds core id group (reset_given text) h
+left_holds core id text (Ok names.Captures) f h = deed_holds core id (without_value text (Ok clears)) h
+left_holds core id text (Ok names.Arming) f h = deed_holds core id (without_value text (arming core.acquisitions (layout_of core.settings))) h
+left_holds core id text (Ok names.Disarming) f h = deed_holds core id (without_value text (disarming core.acquisitions)) h
+left_holds core id text (Ok named) f h = h
 
 table_holds : (core : CoreState) (r : Result Written Refusal) → Holds core → Holds (written_by core r)
 table_holds core (Ok new) h =
     record {
       reached = h.reached;
-      whole = whole_written core.box new.number new.words h.whole;
-      has = λ u k. has_written core.box u (raw_of core.settings u) (h.has u k) h.whole new.number new.words;
+      whole = whole_written core.box new.slot.instance new.words h.whole;
+      has = λ u k. has_written core.box u (raw_of core.settings u) (h.has u k) h.whole new.slot.instance new.words;
     }
 table_holds core (Err refusal) h = h
 
-said_holds : (core : CoreState) (said : Said) → Holds core → Holds (said_after core said)
+said_holds : (core : CoreState) (id : ℕ) (said : Said) → Holds core → Holds (said_after core id said)
 unfolding named_by
-said_holds core (Query target) h = h
-said_holds core (Assign target value) h = left_holds core value (named_by target) (found_by target (after_front (codes "*") target)) h
-said_holds core (Table target append base64 body) h = table_holds core (table_write core.box.stands target append base64 body) h
-said_holds core (Echo text) h = h
-said_holds core (Bad refusal) h = h
+said_holds core id (Query target) h = asked_holds core id (named_by target) h
+said_holds core id (Assign target value) h = left_holds core id value (named_by target) (found_by target (after_front (codes "*") target)) h
+said_holds core id (Table target append base64 body) h = table_holds core (table_write core.box.stands target append base64 body) h
+said_holds core id (Echo text) h = h
+said_holds core id (Bad refusal) h = h
 
 -- Ticks.
-
-record BoxHolds (settings : Settings) (box : Box) : Type 0 where
-  whole : IsWhole box.stands.blocks box.stands.settings
-  has : (u : Slot) → IsKept u → HasValue box u (raw_of settings u)
 
 tick_holds : (settings : Settings) (rows : List Row) (box : Box) → BoxHolds settings box → BoxHolds settings (tick rows box)
 tick_holds settings rows box h =
@@ -268,13 +282,13 @@ ticks_hold (suc n) core h =
     let b : BoxHolds core.settings (tick core.rows core.box) = tick_holds core.settings core.rows core.box (record { whole = h.whole; has = h.has }) in
     ticks_hold n (ticked core) (record { reached = h.reached; whole = b.whole; has = b.has })
 
-line_holds : (is_there : Bool) (core : CoreState) (said : Said) → Holds core → Holds (if is_there then said_after core said else core)
-line_holds true core said h = said_holds core said h
-line_holds false core said h = h
+line_holds : (is_there : Bool) (core : CoreState) (id : ℕ) (said : Said) → Holds core → Holds (if is_there then said_after core id said else core)
+line_holds true core id said h = said_holds core id said h
+line_holds false core id said h = h
 
 event_holds : (core : CoreState) (event : Event) → Holds core → Holds (after core event)
 event_holds core (events.OpenControl id) h = record { reached = h.reached; whole = h.whole; has = h.has }
-event_holds core (events.Line id text) h = line_holds (is_open core.sessions id) core (command_of text) h
+event_holds core (events.Line id text) h = line_holds (is_open core.sessions id) core id (command_of text) h
 event_holds core (events.Bad id refusal) h = h
 event_holds core (events.CloseControl id) h = record { reached = h.reached; whole = h.whole; has = h.has }
 event_holds core (events.OpenData id options) h = record { reached = h.reached; whole = h.whole; has = h.has }

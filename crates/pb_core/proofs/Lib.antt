@@ -1,4 +1,8 @@
+pub mod MarkLemmas
+pub mod FaceLemmas
+pub mod ShownLemmas
 pub mod CoreLemmas
+pub mod QueryLemmas
 pub mod DeedLemmas
 pub mod ToldLemmas
 pub mod FieldLemmas
@@ -9,6 +13,7 @@ pub mod PutLemmas
 pub mod ReachedLemmas
 pub mod SessionLemmas
 pub mod ClosedLemmas
+pub mod DoneLemmas
 pub mod MuxLemmas
 pub mod MuxedLemmas
 pub mod TableLemmas

@@ -38,9 +38,10 @@ use Rattle.pb_config.specs.Capturing.{IsCapture, capture_slots, cleared, layout_
 use Rattle.pb_config.proofs.ClearingLemmas.{all_captures}
 use Rattle.pb_core.specs.Captures.{CaptureDeed, clears, arms, disarms, without_value, arming, disarming}
 use Rattle.pb_core.specs.Naming.{named_by}
-use Rattle.pb_core.specs.Assignments.{given, gives, captures, with_given, changed_by, named_given}
+use Rattle.pb_changes.specs.declared.Group.{Group}
+use Rattle.pb_core.specs.Assignments.{given, gives, captures, resets, reset_given, with_given, changed_by, named_given}
 use Rattle.pb_core.specs.Writing.{Written, table_write}
-use Rattle.pb_core.specs.Answer.{left_by, said_after, after, after_all, written_by}
+use Rattle.pb_core.specs.Answer.{left_by, asked_of, said_after, after, after_all, written_by}
 use Rattle.pb_core.specs.Sessions.{is_open}
 use Rattle.pb_core.proofs.TableLemmas.{holds_table, holds_capture}
 use Rattle.pb_core.specs.Muxes.{IsMux, delay_of, MuxesAreSet}
@@ -159,10 +160,14 @@ record Stands (core : CoreState) : Type 0 where
   reached : IsReached core.settings
   held : Holds core.settings core.box.stands.blocks
 
-slot_left : (core : CoreState) (slot : Slot) (text : List ℕ) (told : Result ℕ Refusal) → raw_given core.settings slot text ≡ told → IsSlot slot → Stands core →
-    Stands (left_by core (result_map gives (result_map (given slot text) told)))
-slot_left core slot text (Err refusal) e s h = h
-slot_left core slot text (Ok raw) e s h =
+record BoxStands (settings : Settings) (box : Box) : Type 0 where
+  reached : IsReached settings
+  held : Holds settings box.stands.blocks
+
+slot_left : (core : CoreState) (id : ℕ) (slot : Slot) (text : List ℕ) (told : Result ℕ Refusal) → raw_given core.settings slot text ≡ told → IsSlot slot → Stands core →
+    Stands (left_by core id (result_map gives (result_map (given slot text) told)))
+slot_left core id slot text (Err refusal) e s h = h
+slot_left core id slot text (Ok raw) e s h =
     record {
       reached = subst IsReached (ap (after_by core.settings slot text) e) (by_assignment core.settings slot text s h.reached);
       held =
@@ -185,44 +190,57 @@ unfolding with_settings
 cleared_left [] core all h = h
 cleared_left (slot ∷ slots) core all h =
     let one : Stands (with_given core (given slot (codes "No") 0)) =
-    slot_left core slot (codes "No") (Ok 0) (all.0.told core.settings) all.0.in_catalogue h in
-    let same : Stands (with_settings core (assigned core.settings slot (codes "No") 0)) =
-    subst (λ b. Stands (record core { settings = assigned core.settings slot (codes "No") 0; box = b }))
-    (quiet_given (changes_box (attribute_at slot)) core slot all.0.quiet) one in
+    slot_left core 0 slot (codes "No") (Ok 0) (all.0.told core.settings) all.0.in_catalogue h in
+    let same : BoxStands (assigned core.settings slot (codes "No") 0) core.box =
+    subst (BoxStands (assigned core.settings slot (codes "No") 0))
+    (quiet_given (changes_box (attribute_at slot)) core slot all.0.quiet) (record { reached = one.reached; held = one.held }) in
     cleared_left slots (with_settings core (record { raws = slice_set core.settings.raws (place slot) 0; texts = core.settings.texts })) all.1
-    (subst (λ s. Stands (with_settings core s)) (all.0.left core.settings) same)
+    (subst (λ s. Stands (with_settings core s)) (all.0.left core.settings) (record { reached = same.reached; held = same.held }))
 
-deed_left : (core : CoreState) (deed : Result CaptureDeed Refusal) → Stands core → Stands (left_by core (result_map captures deed))
+deed_left : (core : CoreState) (id : ℕ) (deed : Result CaptureDeed Refusal) → Stands core → Stands (left_by core id (result_map captures deed))
 unfolding with_settings
-deed_left core (Ok clears) h = cleared_left capture_slots core all_captures h
-deed_left core (Ok (arms layout)) h =
+deed_left core id (Ok clears) h =
+    let cleared : Stands (with_settings core (cleared capture_slots core.settings)) = cleared_left capture_slots core all_captures h in
+    record { reached = cleared.reached; held = cleared.held }
+deed_left core id (Ok (arms layout)) h =
     record { reached = h.reached; held = holds_capture core.settings core.box.stands.blocks (armed (room_of layout)) h.held }
-deed_left core (Ok disarms) h =
+deed_left core id (Ok disarms) h =
     record { reached = h.reached; held = holds_capture core.settings core.box.stands.blocks disarmed h.held }
-deed_left core (Err refusal) h = h
+deed_left core id (Err refusal) h = h
 
-left : (core : CoreState) (text : List ℕ) (r : Result Named Refusal) → IsFound r → Stands core →
-    Stands (left_by core (result_then r (named_given core.settings core.acquisitions text)))
+reset_left : (core : CoreState) (id : ℕ) (group : Option Group) (r : Result Bool Refusal) → Stands core →
+    Stands (left_by core id (result_map (resets group) r))
+reset_left core id group (Ok all) h = record { reached = h.reached; held = h.held }
+reset_left core id group (Err refusal) h = h
+
+asked_left : (core : CoreState) (id : ℕ) (r : Result Named Refusal) → Stands core → Stands (asked_of core id r)
+asked_left core id (Ok (names.Changes group)) h = record { reached = h.reached; held = h.held }
+asked_left core id (Err refusal) h = h
+asked_left core id (Ok _) h = h
+
+left : (core : CoreState) (id : ℕ) (text : List ℕ) (r : Result Named Refusal) → IsFound r → Stands core →
+    Stands (left_by core id (result_then r (named_given core.settings core.acquisitions text)))
 unfolding IsFound IsSlotThere
-left core text (Err refusal) f h = h
-left core text (Ok (names.Value slot)) f h = slot_left core slot text (raw_given core.settings slot text) refl f h
-left core text (Ok names.Captures) f h = deed_left core (without_value text (Ok clears)) h
-left core text (Ok names.Arming) f h = deed_left core (without_value text (arming core.acquisitions (layout_of core.settings))) h
-left core text (Ok names.Disarming) f h = deed_left core (without_value text (disarming core.acquisitions)) h
-left core text (Ok named) f h = h
+left core id text (Err refusal) f h = h
+left core id text (Ok (names.Value slot)) f h = slot_left core id slot text (raw_given core.settings slot text) refl f h
+left core id text (Ok (names.Changes group)) f h = reset_left core id group (reset_given text) h
+left core id text (Ok names.Captures) f h = deed_left core id (without_value text (Ok clears)) h
+left core id text (Ok names.Arming) f h = deed_left core id (without_value text (arming core.acquisitions (layout_of core.settings))) h
+left core id text (Ok names.Disarming) f h = deed_left core id (without_value text (disarming core.acquisitions)) h
+left core id text (Ok named) f h = h
 
 table_left : (core : CoreState) (r : Result Written Refusal) → Stands core → Stands (written_by core r)
 table_left core (Ok new) h =
-    record { reached = h.reached; held = holds_table core.settings core.box.stands.blocks new.number new.words h.held }
+    record { reached = h.reached; held = holds_table core.settings core.box.stands.blocks new.slot.instance new.words h.held }
 table_left core (Err refusal) h = h
 
-said_left : (core : CoreState) (said : Said) → Stands core → Stands (said_after core said)
+said_left : (core : CoreState) (id : ℕ) (said : Said) → Stands core → Stands (said_after core id said)
 unfolding named_by
-said_left core (Query target) h = h
-said_left core (Assign target value) h = left core value (named_by target) (found_by target (after_front (codes "*") target)) h
-said_left core (Table target append base64 body) h = table_left core (table_write core.box.stands target append base64 body) h
-said_left core (Echo text) h = h
-said_left core (Bad refusal) h = h
+said_left core id (Query target) h = asked_left core id (named_by target) h
+said_left core id (Assign target value) h = left core id value (named_by target) (found_by target (after_front (codes "*") target)) h
+said_left core id (Table target append base64 body) h = table_left core (table_write core.box.stands target append base64 body) h
+said_left core id (Echo text) h = h
+said_left core id (Bad refusal) h = h
 
 ticks_left : (n : ℕ) (core : CoreState) → Stands core → Stands (ticks_of_core n core)
 ticks_left zero core h = h
@@ -230,13 +248,13 @@ ticks_left (suc n) core h =
     ticks_left n (ticked core)
     (record { reached = h.reached; held = holds_tick core.box.stands.bus core.box.stands.tick core.settings core.box.stands.blocks h.held })
 
-line_left : (is_there : Bool) (core : CoreState) (said : Said) → Stands core → Stands (if is_there then said_after core said else core)
-line_left true core said h = said_left core said h
-line_left false core said h = h
+line_left : (is_there : Bool) (core : CoreState) (id : ℕ) (said : Said) → Stands core → Stands (if is_there then said_after core id said else core)
+line_left true core id said h = said_left core id said h
+line_left false core id said h = h
 
 event_left : (core : CoreState) (event : Event) → Stands core → Stands (after core event)
 event_left core (events.OpenControl id) h = record { reached = h.reached; held = h.held }
-event_left core (events.Line id text) h = line_left (is_open core.sessions id) core (command_of text) h
+event_left core (events.Line id text) h = line_left (is_open core.sessions id) core id (command_of text) h
 event_left core (events.Bad id refusal) h = h
 event_left core (events.CloseControl id) h = record { reached = h.reached; held = h.held }
 event_left core (events.OpenData id options) h = record { reached = h.reached; held = h.held }

@@ -23,10 +23,12 @@ use Rattle.pb_config.specs.Capturing.{IsCapture, capture_slots, cleared, layout_
 use Rattle.pb_config.proofs.ClearingLemmas.{all_captures}
 use Rattle.pb_core.specs.Captures.{CaptureDeed, clears, arms, disarms, without_value, arming, disarming}
 use Rattle.pb_core.specs.Sessions.{is_open}
-use Rattle.pb_core.specs.Naming.{is_same, has_point, labels_named, capture_named, star_named, listing_named, block_named, named_by}
-use Rattle.pb_core.specs.Assignments.{given, gives, captures, named_given}
+use Rattle.pb_core.specs.Naming.{is_same, has_point, labels_named, capture_named, changes_named, star_named, listing_named, block_named, named_by}
+use Rattle.pb_changes.specs.declared.Group.{Group}
+use Rattle.pb_changes.specs.declared.Group.TheVariants as groups
+use Rattle.pb_core.specs.Assignments.{given, gives, captures, resets, reset_given, named_given}
 use Rattle.pb_core.specs.Writing.{Written, table_write}
-use Rattle.pb_core.specs.Answer.{left_by, written_by, said_after, after, after_all}
+use Rattle.pb_core.specs.Answer.{left_by, written_by, asked_of, said_after, after, after_all}
 
 -- where a value is named, it is a slot
 
@@ -84,6 +86,17 @@ captured_found (Some name) other h =
     (either (is_same name (codes "CAPTURED")) _ _ (known names.Captured tt)
     (either (is_same name (codes "COMPLETION")) _ _ (known names.Completion tt) (refused refusals.NoSuchField)))))
 
+reports_found : (rest : Option (List ℕ)) (other : Result Named Refusal) → IsFound other → IsFound (option_map_or changes_named rest other)
+unfolding IsSlotThere
+reports_found None other h = h
+reports_found (Some name) other h =
+    either (is_same name (codes "CONFIG")) _ _ (known (names.Changes (Some groups.Config)) tt)
+    (either (is_same name (codes "ATTR")) _ _ (known (names.Changes (Some groups.Attr)) tt)
+    (either (is_same name (codes "TABLE")) _ _ (known (names.Changes (Some groups.Table)) tt)
+    (either (is_same name (codes "BITS")) _ _ (known (names.Changes (Some groups.Bits)) tt)
+    (either (is_same name (codes "POSN")) _ _ (known (names.Changes (Some groups.Posn)) tt)
+    (either (is_same name (codes "READ")) _ _ (known (names.Changes (Some groups.Read)) tt) (refused refusals.NoSuchField))))))
+
 star_found : (name : List ℕ) → IsFound (star_named name)
 unfolding IsSlotThere
 star_found name =
@@ -92,8 +105,10 @@ star_found name =
     (either (is_same name (codes "BLOCKS")) _ _ (known names.Blocks tt)
     (either (is_same name (codes "POSITIONS")) _ _ (known names.Positions tt)
     (either (is_same name (codes "CAPTURE")) _ _ (known names.Captures tt)
+    (either (is_same name (codes "CHANGES")) _ _ (known (names.Changes None) tt)
+    (reports_found (after_front (codes "CHANGES.") name) _
     (captured_found (after_front (codes "PCAP.") name) (option_map_or labels_named (after_front (codes "ENUMS.") name) (Err refusals.NoSuchField))
-    (labelled_found (after_front (codes "ENUMS.") name)))))))
+    (labelled_found (after_front (codes "ENUMS.") name)))))))))
 
 listing_found : (target : List ℕ) (front : Option (List ℕ)) → IsFound (option_map_or listing_named front (result_map names.Value (found_of target)))
 listing_found target None = value_found (found_of target) (λ slot e. (found_of-named target slot e).0)
@@ -106,10 +121,10 @@ found_by target (Some name) = star_found name
 
 -- what an event leaves
 
-slot_left : (core : CoreState) (slot : Slot) (text : List ℕ) (r : Result ℕ Refusal) →
-    after_by core.settings slot text r ≡ (left_by core (result_map gives (result_map (given slot text) r))).settings
-slot_left core slot text (Ok raw) = refl
-slot_left core slot text (Err refusal) = refl
+slot_left : (core : CoreState) (id : ℕ) (slot : Slot) (text : List ℕ) (r : Result ℕ Refusal) →
+    after_by core.settings slot text r ≡ (left_by core id (result_map gives (result_map (given slot text) r))).settings
+slot_left core id slot text (Ok raw) = refl
+slot_left core id slot text (Err refusal) = refl
 
 -- where nothing is captured any more, No was assigned to each CAPTURE
 cleared_reached : (slots : List Slot) (settings : Settings) → AllByRecursion IsCapture slots → IsReached settings → IsReached (cleared slots settings)
@@ -119,46 +134,57 @@ cleared_reached (slot ∷ slots) settings all h =
     (subst IsReached (ap (after_by settings slot (codes "No")) (all.0.told settings) ∙ all.0.left settings)
     (by_assignment settings slot (codes "No") all.0.in_catalogue h))
 
-deed_left : (core : CoreState) (deed : Result CaptureDeed Refusal) → IsReached core.settings → IsReached (left_by core (result_map captures deed)).settings
-deed_left core (Ok clears) h = cleared_reached capture_slots core.settings all_captures h
-deed_left core (Ok (arms layout)) h = h
-deed_left core (Ok disarms) h = h
-deed_left core (Err refusal) h = h
+deed_left : (core : CoreState) (id : ℕ) (deed : Result CaptureDeed Refusal) → IsReached core.settings → IsReached (left_by core id (result_map captures deed)).settings
+deed_left core id (Ok clears) h = cleared_reached capture_slots core.settings all_captures h
+deed_left core id (Ok (arms layout)) h = h
+deed_left core id (Ok disarms) h = h
+deed_left core id (Err refusal) h = h
 
-left : (core : CoreState) (text : List ℕ) (r : Result Named Refusal) → IsFound r → IsReached core.settings →
-    IsReached (left_by core (result_then r (named_given core.settings core.acquisitions text))).settings
+reset_left : (core : CoreState) (id : ℕ) (group : Option Group) (r : Result Bool Refusal) → IsReached core.settings →
+    IsReached (left_by core id (result_map (resets group) r)).settings
+reset_left core id group (Ok all) h = h
+reset_left core id group (Err refusal) h = h
+
+asked_left : (core : CoreState) (id : ℕ) (r : Result Named Refusal) → IsReached core.settings → IsReached (asked_of core id r).settings
+asked_left core id (Ok (names.Changes group)) h = h
+asked_left core id (Err refusal) h = h
+asked_left core id (Ok _) h = h
+
+left : (core : CoreState) (id : ℕ) (text : List ℕ) (r : Result Named Refusal) → IsFound r → IsReached core.settings →
+    IsReached (left_by core id (result_then r (named_given core.settings core.acquisitions text))).settings
 unfolding IsFound IsSlotThere
-left core text (Err refusal) f h = h
-left core text (Ok (names.Value slot)) f h =
-    subst IsReached (slot_left core slot text (raw_given core.settings slot text)) (by_assignment core.settings slot text f h)
-left core text (Ok names.Captures) f h = deed_left core (without_value text (Ok clears)) h
-left core text (Ok names.Arming) f h = deed_left core (without_value text (arming core.acquisitions (layout_of core.settings))) h
-left core text (Ok names.Disarming) f h = deed_left core (without_value text (disarming core.acquisitions)) h
-left core text (Ok named) f h = h
+left core id text (Err refusal) f h = h
+left core id text (Ok (names.Value slot)) f h =
+    subst IsReached (slot_left core id slot text (raw_given core.settings slot text)) (by_assignment core.settings slot text f h)
+left core id text (Ok (names.Changes group)) f h = reset_left core id group (reset_given text) h
+left core id text (Ok names.Captures) f h = deed_left core id (without_value text (Ok clears)) h
+left core id text (Ok names.Arming) f h = deed_left core id (without_value text (arming core.acquisitions (layout_of core.settings))) h
+left core id text (Ok names.Disarming) f h = deed_left core id (without_value text (disarming core.acquisitions)) h
+left core id text (Ok named) f h = h
 
 table_left : (core : CoreState) (r : Result Written Refusal) → IsReached core.settings → IsReached (written_by core r).settings
 table_left core (Ok new) h = h
 table_left core (Err refusal) h = h
 
-said_left : (core : CoreState) (said : Said) → IsReached core.settings → IsReached (said_after core said).settings
+said_left : (core : CoreState) (id : ℕ) (said : Said) → IsReached core.settings → IsReached (said_after core id said).settings
 unfolding named_by
-said_left core (Query target) h = h
-said_left core (Assign target value) h = left core value (named_by target) (found_by target (after_front (codes "*") target)) h
-said_left core (Table target append base64 body) h = table_left core (table_write core.box.stands target append base64 body) h
-said_left core (Echo text) h = h
-said_left core (Bad refusal) h = h
+said_left core id (Query target) h = asked_left core id (named_by target) h
+said_left core id (Assign target value) h = left core id value (named_by target) (found_by target (after_front (codes "*") target)) h
+said_left core id (Table target append base64 body) h = table_left core (table_write core.box.stands target append base64 body) h
+said_left core id (Echo text) h = h
+said_left core id (Bad refusal) h = h
 
 ticks_left : (n : ℕ) (core : CoreState) → IsReached core.settings → IsReached (ticks_of_core n core).settings
 ticks_left zero core h = h
 ticks_left (suc n) core h = ticks_left n (ticked core) h
 
-line_left : (is_there : Bool) (core : CoreState) (said : Said) → IsReached core.settings →
-    IsReached (if is_there then said_after core said else core).settings
-line_left true core said h = said_left core said h
-line_left false core said h = h
+line_left : (is_there : Bool) (core : CoreState) (id : ℕ) (said : Said) → IsReached core.settings →
+    IsReached (if is_there then said_after core id said else core).settings
+line_left true core id said h = said_left core id said h
+line_left false core id said h = h
 
 event_left : (core : CoreState) (event : Event) → IsReached core.settings → IsReached (after core event).settings
-event_left core (events.Line id text) h = line_left (is_open core.sessions id) core (command_of text) h
+event_left core (events.Line id text) h = line_left (is_open core.sessions id) core id (command_of text) h
 event_left core (events.Advance to) h = ticks_left (to - core.box.stands.tick) core h
 event_left core event h = h
 

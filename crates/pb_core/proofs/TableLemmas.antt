@@ -1,5 +1,6 @@
 -- Tables: which slots are theirs, and what a table write leaves of a core.
-use Rattle.std.proofs.Common.{◌≡◌, ℕ, ◌-◌, ◌<◌, ◌≤◌, ◌||◌, ◌==◌, ℤ, Bool, true, false, leb, List, length, get_or, set, Option, Some, Result, Ok, Err, refl, sym, ap, subst, ◌∙◌, arith}
+use Rattle.std.proofs.Common.{◌≡◌, ℕ, ◌-◌, ◌<◌, ◌≤◌, ◌||◌, ◌==◌, ℤ, Bool, true, false, leb, List, length, get_or, set, Option, Some, None, Result, Ok, Err, slice_index_or, refl, sym, ap, subst, ◌∙◌, arith}
+use Rattle.std.specs.Prelude.{if◌then◌else◌}
 use Rattle.std.specs.List.{list_all}
 use Rattle.std.proofs.lemmas.Bool.{eqb-true, leb-true}
 use Rattle.std.proofs.lemmas.List.{length-set}
@@ -11,12 +12,15 @@ use Rattle.pb_fields.specs.declared.FieldType.{FieldType}
 use Rattle.pb_fields.specs.declared.FieldType.TheVariants as types
 use Rattle.pb_fields.specs.declared.Attribute.{Attribute}
 use Rattle.pb_fields.specs.declared.Attribute.TheVariants as attributes
-use Rattle.pb_fields.specs.Types.{attributes_of}
+use Rattle.pb_fields.specs.declared.Role.TheVariants as roles
+use Rattle.pb_names.specs.declared.TheConstants.{ITSELF}
+use Rattle.pb_fields.specs.Types.{attributes_of, role_of}
 use Rattle.pb_fields.specs.Catalogue.{catalogue}
 use Rattle.pb_fields.specs.Places.{count_of, fields_of, type_of}
-use Rattle.pb_fields.specs.Slots.{IsSlot, type_at, attribute_at}
+use Rattle.pb_fields.specs.Slots.{IsSlot, type_at, attributes_at, attribute_at, role_at}
 use Rattle.pb_fields.proofs.RowLemmas.{all_within}
 use Rattle.pb_config.specs.Settings.{Settings}
+use Rattle.pb_config.specs.KeptConfig.{with_note}
 use Rattle.pb_config.proofs.KindLemmas.{which, unlike}
 use Rattle.pb_config.proofs.TextLemmas.{all_of, at_each}
 use Rattle.pb_tables.specs.Computed.{answer_of}
@@ -102,21 +106,39 @@ table_number slot s h = table_field slot s (by (type_at slot) (attribute_at slot
     by types.Table o e = refl
     by _ o e = absurd (cc)
 
+pub table_role : (slot : Slot) → is_table slot ≡ true → role_at slot ≡ roles.Table
+table_role slot h = by (slot.attr == ITSELF) (type_at slot) (slice_index_or (attributes_at slot) (slot.attr - 1) attributes.Info) h
+  where
+    by : (b : Bool) (t : FieldType) (a : Attribute) → is_table_by t (if b then None else Some a) ≡ true → (if b then role_of t else roles.Attr) ≡ roles.Table
+    by true types.Table a e = refl
+    by true _ a e = absurd (cc)
+    by false types.Table a e = absurd (cc)
+    by false _ a e = absurd (cc)
+
 -- What a table write answers and leaves.
 
-pub table_done : (left : Result (List ℕ) Refusal) (number : ℕ) → Ok tt ≡ answer_of left → answers.Ok ≡ done (result_map (left_to number) left)
-table_done (Ok words) number e = refl
-table_done (Err refusal) number e = absurd (cc)
+pub table_done : (left : Result (List ℕ) Refusal) (slot : Slot) → Ok tt ≡ answer_of left → answers.Ok ≡ done (result_map (left_to slot) left)
+table_done (Ok words) slot e = refl
+table_done (Err refusal) slot e = absurd (cc)
 
-pub table_refused : (left : Result (List ℕ) Refusal) (number : ℕ) (refusal : Refusal) → Err refusal ≡ answer_of left →
-    answers.Error refusal ≡ done (result_map (left_to number) left)
-table_refused (Ok words) number refusal e = absurd (cc)
-table_refused (Err other) number refusal e = let same : refusal ≡ other = cc in ap answers.Error same
+pub table_refused : (left : Result (List ℕ) Refusal) (slot : Slot) (refusal : Refusal) → Err refusal ≡ answer_of left →
+    answers.Error refusal ≡ done (result_map (left_to slot) left)
+table_refused (Ok words) slot refusal e = absurd (cc)
+table_refused (Err other) slot refusal e = let same : refusal ≡ other = cc in ap answers.Error same
 
-pub table_kept : (core : KeptCore) (number : ℕ) (left : Result (List ℕ) Refusal) →
-    record core { box = table_left core.box number left } ≡ kept_written_by core (result_map (left_to number) left)
-table_kept core number (Ok words) = refl
-table_kept core number (Err refusal) = refl
+pub table_kept : (core : KeptCore) (slot : Slot) (left : Result (List ℕ) Refusal) → Ok tt ≡ answer_of left →
+    record core { config = with_note core.config slot; box = table_left core.box slot.instance left } ≡ kept_written_by core (result_map (left_to slot) left)
+table_kept core slot (Ok words) e = refl
+table_kept core slot (Err refusal) e = absurd (cc)
+
+pub table_same : (core : KeptCore) (slot : Slot) (left : Result (List ℕ) Refusal) (refusal : Refusal) → Err refusal ≡ answer_of left →
+    record core { box = table_left core.box slot.instance left } ≡ kept_written_by core (result_map (left_to slot) left)
+table_same core slot (Ok words) refusal e = absurd (cc)
+table_same core slot (Err other) refusal e = refl
+
+pub table_tick : (kept : Kept) (number : ℕ) (left : Result (List ℕ) Refusal) → (table_left kept number left).tick ≡ kept.tick
+table_tick kept number (Ok words) = refl
+table_tick kept number (Err refusal) = refl
 
 pub table_current : (rows : List Row) (place : ℕ) (values : List ℤ) (kept : Kept) (number : ℕ) (left : Result (List ℕ) Refusal) →
     IsCurrent rows place values kept.tick → IsCurrent rows place values (table_left kept number left).tick

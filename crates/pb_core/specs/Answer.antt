@@ -1,5 +1,5 @@
 -- One event: what it answers, and what it leaves.
-use Rattle.std.specs.Prelude.{◌≡◌, ℕ, ◌-◌, ◌<◌, ◌≤◌, ◌^◌, Bool, true, false, if◌then◌else◌, max, List, [], ◌∷◌, Result, Ok, Err, codes}
+use Rattle.std.specs.Prelude.{◌≡◌, ℕ, ◌-◌, ◌<◌, ◌≤◌, ◌^◌, Bool, true, if◌then◌else◌, max, List, [], ◌∷◌, Option, Some, None, Result, Ok, Err, codes}
 use Rattle.pb_words.specs.declared.Refusal.{Refusal}
 use Rattle.pb_words.specs.Refusals.{line_of}
 use Rattle.pb_grammar.specs.Grammar.{Said, Query, Assign, Table, Echo, Bad, command_of}
@@ -11,7 +11,9 @@ use Rattle.pb_core.specs.declared.events.Answer.TheVariants as answers
 use Rattle.pb_model.specs.Tick.{Standing}
 use Rattle.pb_config.specs.Settings.{Settings}
 pub use Rattle.pb_core.specs.Core.{CoreState, opening, with_box, with_sessions, with_acquisitions, ticks_of_core}
-use Rattle.pb_core.specs.Sessions.{IsSession, is_open, with_session, told_if_open, opened_answer, opened_by, taken_answer}
+use Rattle.pb_changes.specs.declared.Group.{Group}
+use Rattle.pb_changes.specs.Report as changes
+use Rattle.pb_core.specs.Sessions.{IsSession, is_open, open_of, with_session, told_if_open, opened_answer, opened_by, taken_answer}
 use Rattle.pb_encode.specs.Choosing.{options_of}
 use Rattle.pb_acquire.specs.Taking.{closed, after_take}
 use Rattle.pb_core.specs.declared.events.Why.TheVariants as whys
@@ -19,10 +21,12 @@ use Rattle.pb_acquire.specs.Acquisitions.{AllAcquisitions}
 use Rattle.pb_buses.specs.Rules.{is_record}
 use Rattle.pb_model.specs.Tick.{emitted_of}
 use Rattle.pb_core.specs.Naming.{named_by}
+use Rattle.pb_core.specs.declared.targets.Named.{Named}
 use Rattle.pb_core.specs.declared.targets.Named.TheVariants as names
 use Rattle.pb_core.specs.Queries.{query_reply}
 use Rattle.pb_core.specs.Assignments.{Deed, with_deed, assignment}
 use Rattle.pb_core.specs.Writing.{Written, with_written, table_write}
+use Rattle.pb_core.specs.Telling.{reports_to, after_telling}
 
 -- Commands.
 
@@ -36,32 +40,39 @@ abbrev pub done : {X : Type 0} → Result X Refusal → Answer
 done (Ok new) = answers.Ok
 done (Err refusal) = answers.Error refusal
 
--- the core where this was done, or as it was
-abbrev pub left_by : CoreState → Result Deed Refusal → CoreState
-left_by core (Ok deed) = with_deed core deed
-left_by core (Err refusal) = core
+-- the core where a session did this, or as it was
+abbrev pub left_by : CoreState → ℕ → Result Deed Refusal → CoreState
+left_by core id (Ok deed) = with_deed core id deed
+left_by core id (Err refusal) = core
 
 -- the core where a table write left these words, or as it was
 abbrev pub written_by : CoreState → Result Written Refusal → CoreState
 written_by core (Ok new) = with_written core new
 written_by core (Err refusal) = core
 
--- the answer to a command, by the settings, what stands in the box, the control sessions and the acquisitions
-abbrev pub said_answer : Settings → Standing → List Bool → AllAcquisitions → Said → Answer
-said_answer settings box sessions all (Query target) = replied (query_reply settings box sessions all target)
-said_answer settings box sessions all (Assign target value) = done (assignment settings all target value)
-said_answer settings box sessions all (Table target append base64 body) = done (table_write box target append base64 body)
-said_answer settings box sessions all (Echo text) = answers.Reply (value_reply text)
-said_answer settings box sessions all (Bad refusal) = answers.Error refusal
+-- the core after the query of what is named: what was reported counts as told
+abbrev pub asked_of : CoreState → ℕ → Result Named Refusal → CoreState
+asked_of core id (Ok (names.Changes group)) = after_telling core id group
+asked_of core id named = core
 
--- the core after a command: only an assignment or a table write that is accepted changes it
-abbrev pub said_after : CoreState → Said → CoreState
-said_after core (Query target) = core
-said_after core (Assign target value) = left_by core (assignment core.settings core.acquisitions target value)
-said_after core (Table target append base64 body) =
+-- the answer to a command, by the settings, what stands in the box, which control sessions are open, the acquisitions, and
+-- the reports to the session
+abbrev pub said_answer : Settings → Standing → List Bool → AllAcquisitions → (Option Group → List ℕ) → Said → Answer
+said_answer settings box is_open_at all reports (Query target) = replied (query_reply settings box is_open_at all reports target)
+said_answer settings box is_open_at all reports (Assign target value) = done (assignment settings all target value)
+said_answer settings box is_open_at all reports (Table target append base64 body) = done (table_write box target append base64 body)
+said_answer settings box is_open_at all reports (Echo text) = answers.Reply (value_reply text)
+said_answer settings box is_open_at all reports (Bad refusal) = answers.Error refusal
+
+-- The core after a command of a session: an assignment or a table write that is accepted changes it, and of a query a report
+-- changes what was reported to the session.
+abbrev pub said_after : CoreState → ℕ → Said → CoreState
+said_after core id (Query target) = asked_of core id (named_by target)
+said_after core id (Assign target value) = left_by core id (assignment core.settings core.acquisitions target value)
+said_after core id (Table target append base64 body) =
     written_by core (table_write core.box.stands target append base64 body)
-said_after core (Echo text) = core
-said_after core (Bad refusal) = core
+said_after core id (Echo text) = core
+said_after core id (Bad refusal) = core
 
 -- Events.
 
@@ -80,15 +91,16 @@ CanHappen (events.Take id) = IsSession id
 CanHappen (events.CloseData id) = IsSession id
 CanHappen (events.Advance to) = to < 2 ^ 62
 
--- what a command of an open session is answered
-abbrev pub line_answer : CoreState → Said → Answer
-line_answer core said = said_answer core.settings core.box.stands core.sessions core.acquisitions said
+-- what a command of a session that is open is answered
+abbrev pub line_answer : CoreState → ℕ → Said → Answer
+line_answer core id said =
+    said_answer core.settings core.box.stands (open_of core.sessions) core.acquisitions (reports_to core id) said
 
 -- What an event answers. A command, also one that was refused as it was put together, is answered to an open session
 -- alone.
 abbrev pub answer : CoreState → Event → Answer
 answer core (events.OpenControl id) = answers.Nothing
-answer core (events.Line id text) = told_if_open (is_open core.sessions id) (line_answer core (command_of text))
+answer core (events.Line id text) = told_if_open (is_open core.sessions id) (line_answer core id (command_of text))
 answer core (events.Bad id refusal) = told_if_open (is_open core.sessions id) (answers.Error refusal)
 answer core (events.CloseControl id) = answers.Nothing
 answer core (events.OpenData id options) = opened_answer (options_of options)
@@ -98,14 +110,14 @@ answer core (events.Advance to) = answers.Reached (max core.box.stands.tick to) 
 
 -- the core after a command of a session: only one that is open changes it
 abbrev pub left_if_open : CoreState → ℕ → Said → CoreState
-left_if_open core id said = if is_open core.sessions id then said_after core said else core
+left_if_open core id said = if is_open core.sessions id then said_after core id said else core
 
 -- the core after an event
 abbrev pub after : CoreState → Event → CoreState
-after core (events.OpenControl id) = with_sessions core (with_session id true core.sessions)
+after core (events.OpenControl id) = with_sessions core (with_session id (Some changes.opening) core.sessions)
 after core (events.Line id text) = left_if_open core id (command_of text)
 after core (events.Bad id refusal) = core
-after core (events.CloseControl id) = with_sessions core (with_session id false core.sessions)
+after core (events.CloseControl id) = with_sessions core (with_session id None core.sessions)
 after core (events.OpenData id options) = with_acquisitions core (opened_by id (options_of options) core.acquisitions)
 after core (events.Take id) = with_acquisitions core (after_take id core.acquisitions)
 after core (events.CloseData id) = with_acquisitions core (closed id core.acquisitions)

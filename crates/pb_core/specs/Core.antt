@@ -1,20 +1,26 @@
--- The core: the rows of its stimulus, the settings, the box, the control sessions and the acquisitions with their readers.
-use Rattle.std.specs.Prelude.{ℕ, zero, suc, Bool, List, replicate, false}
+-- The core: the rows of its stimulus, the settings, what was assigned, the box, the control sessions and the acquisitions
+-- with their readers.
+use Rattle.std.specs.Prelude.{ℕ, zero, suc, List, [], Option}
+use Rattle.pb_fields.specs.declared.Slot.{Slot}
 use Rattle.pb_stim.specs.declared.Row.{Row}
 use Rattle.pb_config.specs.Settings.{Settings}
 use Rattle.pb_config.specs.Defaults.{fresh}
 use Rattle.pb_model.specs.Tick.{Box, opening_box}
 use Rattle.pb_acquire.specs.Acquisitions.{AllAcquisitions}
 use Rattle.pb_acquire.specs.Acquisitions as acquire
+use Rattle.pb_changes.specs.Report.{Reported}
+use Rattle.pb_core.specs.Sessions.{none_open}
 use Rattle.pb_core.specs.Tick.{stimulated, tick, taken}
 use Rattle.pb_model.specs.Tick.{emitted_of}
 
 pub record CoreState : Type 0 where
   pub rows : List Row
   pub settings : Settings
+  -- the accepted assignments, each by its slot, the latest first
+  pub assigned : List Slot
   pub box : Box
-  -- for each of the ids 1 to 8 whether its control session is open
-  pub sessions : List Bool
+  -- for each of the ids 1 to 8 what was last reported to its control session, if it is open
+  pub sessions : List (Option Reported)
   pub acquisitions : AllAcquisitions
 
 -- the core as it opens
@@ -23,8 +29,9 @@ opening rows =
     record {
       rows = rows;
       settings = fresh;
+      assigned = [];
       box = stimulated rows opening_box;
-      sessions = replicate 8 false;
+      sessions = none_open;
       acquisitions = acquire.opening;
     }
 
@@ -33,7 +40,7 @@ abbrev pub with_box : CoreState → Box → CoreState
 with_box core box = record core { box = box }
 
 -- the core with other control sessions
-abbrev pub with_sessions : CoreState → List Bool → CoreState
+abbrev pub with_sessions : CoreState → List (Option Reported) → CoreState
 with_sessions core sessions = record core { sessions = sessions }
 
 -- the core with other acquisitions or readers

@@ -6,6 +6,7 @@ pub mod Sessions
 pub mod Who
 pub mod Captures
 pub mod Queries
+pub mod Telling
 pub mod Assignments
 pub mod Writing
 pub mod Helpers

@@ -1,5 +1,5 @@
 -- What a target names: what is asked with a star, all fields of a block, all attributes of a field, or a slot.
-use Rattle.std.specs.Prelude.{ℕ, nat_eq, Bool, List, Result, Ok, Err, codes, is_some, position, if◌then◌else◌}
+use Rattle.std.specs.Prelude.{ℕ, nat_eq, Bool, List, [], ◌∷◌, Option, Some, None, Result, Ok, Err, codes, is_some, position, if◌then◌else◌}
 use Rattle.std.specs.Cmp.Lexicographic.{pointwise}
 use Rattle.std.specs.Option.{option_map_or}
 use Rattle.pb_words.specs.declared.Refusal.{Refusal}
@@ -7,6 +7,7 @@ use Rattle.pb_words.specs.declared.Refusal.TheVariants as refusals
 use Rattle.pb_words.specs.Refusing.{result_map}
 use Rattle.pb_fields.specs.Finding.{found_of, block_found, is_point}
 use Rattle.pb_grammar.specs.Grammar.{after_front, before_end}
+use Rattle.pb_changes.specs.declared.Group.TheVariants as groups
 use Rattle.pb_core.specs.declared.targets.Named.{Named}
 use Rattle.pb_core.specs.declared.targets.Named.TheVariants as names
 
@@ -32,6 +33,16 @@ capture_named name =
     else (if is_same name (codes "CAPTURED") then Ok names.Captured
     else (if is_same name (codes "COMPLETION") then Ok names.Completion else Err refusals.NoSuchField))))
 
+-- `*CHANGES.CONFIG` and the other groups of a change report, by what stands after the point
+abbrev pub changes_named : List ℕ → Result Named Refusal
+changes_named name =
+    if is_same name (codes "CONFIG") then Ok (names.Changes (Some groups.Config))
+    else (if is_same name (codes "ATTR") then Ok (names.Changes (Some groups.Attr))
+    else (if is_same name (codes "TABLE") then Ok (names.Changes (Some groups.Table))
+    else (if is_same name (codes "BITS") then Ok (names.Changes (Some groups.Bits))
+    else (if is_same name (codes "POSN") then Ok (names.Changes (Some groups.Posn))
+    else (if is_same name (codes "READ") then Ok (names.Changes (Some groups.Read)) else Err refusals.NoSuchField)))))
+
 -- the star targets, by what stands after the star
 abbrev pub star_named : List ℕ → Result Named Refusal
 star_named name =
@@ -40,8 +51,26 @@ star_named name =
     else (if is_same name (codes "BLOCKS") then Ok names.Blocks
     else (if is_same name (codes "POSITIONS") then Ok names.Positions
     else (if is_same name (codes "CAPTURE") then Ok names.Captures
-    else option_map_or capture_named (after_front (codes "PCAP.") name)
-    (option_map_or labels_named (after_front (codes "ENUMS.") name) (Err refusals.NoSuchField))))))
+    else (if is_same name (codes "CHANGES") then Ok (names.Changes None)
+    else option_map_or changes_named (after_front (codes "CHANGES.") name)
+    (option_map_or capture_named (after_front (codes "PCAP.") name)
+    (option_map_or labels_named (after_front (codes "ENUMS.") name) (Err refusals.NoSuchField))))))))
+
+-- all that stand behind the star but for `ENUMS.` and its target: those without a point, the groups of a change report,
+-- and the commands of capture
+
+abbrev pub plain_names : List (List ℕ)
+plain_names =
+    codes "IDN" ∷ codes "WHO" ∷ codes "BLOCKS" ∷ codes "POSITIONS" ∷ codes "CAPTURE" ∷ codes "CHANGES" ∷ []
+
+abbrev pub group_names : List (List ℕ)
+group_names =
+    codes "CHANGES.CONFIG" ∷ codes "CHANGES.ATTR" ∷ codes "CHANGES.TABLE" ∷ codes "CHANGES.BITS" ∷ codes "CHANGES.POSN"
+    ∷ codes "CHANGES.READ" ∷ []
+
+abbrev pub capture_names : List (List ℕ)
+capture_names =
+    codes "PCAP.ARM" ∷ codes "PCAP.DISARM" ∷ codes "PCAP.STATUS" ∷ codes "PCAP.CAPTURED" ∷ codes "PCAP.COMPLETION" ∷ []
 
 -- `LUT1.INPA.*` names all attributes of a field, and `LUT1.*` all fields of a block
 abbrev pub listing_named : List ℕ → Result Named Refusal

@@ -20,6 +20,7 @@ use Rattle.pb_replies.specs.Replies.{value_reply, list_reply}
 use Rattle.pb_replies.specs.Lists.{block_lines, field_lines, attribute_lines, labels_at, position_lines, word_lines, row_lines}
 use Rattle.pb_replies.specs.Tables.{table_lines, base64_lines}
 use Rattle.pb_buses.specs.Buses.{selected, position}
+use Rattle.pb_changes.specs.declared.Group.{Group}
 use Rattle.pb_model.specs.Tick.{Standing}
 use Rattle.pb_model.specs.Settings.{read_of}
 use Rattle.pb_model.specs.Tables.{table_of}
@@ -40,12 +41,22 @@ level_of box slot = selected box.bus (output_entry slot)
 abbrev pub position_of : Standing → Slot → ℤ
 position_of box slot = position box.bus (output_entry slot - position_bus.FIRST)
 
--- what a field that can be read is answered: what a block reports as a number or as its label, and a table word by word
+-- what is shown of them, and of what a block reports: a number, or its label
+abbrev pub level_shown : Standing → Slot → List ℕ
+level_shown box slot = shown (kind_of slot) (bit_raw (level_of box slot))
+
+abbrev pub position_shown : Standing → Slot → List ℕ
+position_shown box slot = shown (kind_of slot) (int_raw (position_of box slot))
+
+abbrev pub read_shown : Standing → Slot → List ℕ
+read_shown box slot = shown (kind_of slot) (read_of box.blocks slot)
+
+-- what a field that can be read is answered: its value, and a table word by word
 abbrev pub field_reply : Settings → Standing → Slot → FieldType → List ℕ
-field_reply settings box slot types.ReadUint = value_reply (shown (kind_of slot) (read_of box.blocks slot))
-field_reply settings box slot (types.ReadEnum labels) = value_reply (shown (kind_of slot) (read_of box.blocks slot))
-field_reply settings box slot types.BitOut = value_reply (shown (kind_of slot) (bit_raw (level_of box slot)))
-field_reply settings box slot types.PosOut = value_reply (shown (kind_of slot) (int_raw (position_of box slot)))
+field_reply settings box slot types.ReadUint = value_reply (read_shown box slot)
+field_reply settings box slot (types.ReadEnum labels) = value_reply (read_shown box slot)
+field_reply settings box slot types.BitOut = value_reply (level_shown box slot)
+field_reply settings box slot types.PosOut = value_reply (position_shown box slot)
 field_reply settings box slot types.Table = list_reply (table_lines (table_of box.blocks slot.instance))
 field_reply settings box slot _ = value_reply (shown_at settings slot)
 
@@ -78,25 +89,27 @@ labels_or_refused slot = option_map_or (λ labels. Ok (list_reply labels)) (labe
 abbrev pub identity : List ℕ
 identity = codes "panda_sim 1.0"
 
--- what the query of what is named is answered, by the settings, what stands in the box, the control sessions and the
--- acquisitions
-abbrev pub named_reply : Settings → Standing → List Bool → AllAcquisitions → Named → Result (List ℕ) Refusal
-named_reply settings box sessions all names.Identity = Ok (value_reply identity)
-named_reply settings box sessions all names.Sessions = Ok (who_reply sessions all)
-named_reply settings box sessions all names.Blocks = Ok (list_reply block_lines)
-named_reply settings box sessions all names.Positions = Ok (list_reply position_lines)
-named_reply settings box sessions all names.Captures = Ok (captures_reply settings)
-named_reply settings box sessions all names.Arming = Err refusals.NotReadable
-named_reply settings box sessions all names.Disarming = Err refusals.NotReadable
-named_reply settings box sessions all names.Status = Ok (status_reply all)
-named_reply settings box sessions all names.Captured = Ok (captured_reply all)
-named_reply settings box sessions all names.Completion = Ok (completion_reply all)
-named_reply settings box sessions all (names.Labels slot) = labels_or_refused slot
-named_reply settings box sessions all (names.Fields block) = Ok (list_reply (field_lines block))
-named_reply settings box sessions all (names.Attributes slot) = Ok (list_reply (attribute_lines slot))
-named_reply settings box sessions all (names.Value slot) = slot_reply settings box slot
+-- what the query of what is named is answered, by the settings, what stands in the box, which control sessions are open,
+-- the acquisitions, and the reports to the session that asks
+abbrev pub named_reply : Settings → Standing → List Bool → AllAcquisitions → (Option Group → List ℕ) → Named → Result (List ℕ) Refusal
+named_reply settings box is_open_at all reports names.Identity = Ok (value_reply identity)
+named_reply settings box is_open_at all reports names.Sessions = Ok (who_reply is_open_at all)
+named_reply settings box is_open_at all reports names.Blocks = Ok (list_reply block_lines)
+named_reply settings box is_open_at all reports names.Positions = Ok (list_reply position_lines)
+named_reply settings box is_open_at all reports names.Captures = Ok (captures_reply settings)
+named_reply settings box is_open_at all reports (names.Changes group) = Ok (reports group)
+named_reply settings box is_open_at all reports names.Arming = Err refusals.NotReadable
+named_reply settings box is_open_at all reports names.Disarming = Err refusals.NotReadable
+named_reply settings box is_open_at all reports names.Status = Ok (status_reply all)
+named_reply settings box is_open_at all reports names.Captured = Ok (captured_reply all)
+named_reply settings box is_open_at all reports names.Completion = Ok (completion_reply all)
+named_reply settings box is_open_at all reports (names.Labels slot) = labels_or_refused slot
+named_reply settings box is_open_at all reports (names.Fields block) = Ok (list_reply (field_lines block))
+named_reply settings box is_open_at all reports (names.Attributes slot) = Ok (list_reply (attribute_lines slot))
+named_reply settings box is_open_at all reports (names.Value slot) = slot_reply settings box slot
 
 -- The reply to the query of a target, or the first refusal that fits: that it names nothing; then that it
 -- can't be read.
-abbrev pub query_reply : Settings → Standing → List Bool → AllAcquisitions → List ℕ → Result (List ℕ) Refusal
-query_reply settings box sessions all target = result_then (named_by target) (named_reply settings box sessions all)
+abbrev pub query_reply : Settings → Standing → List Bool → AllAcquisitions → (Option Group → List ℕ) → List ℕ → Result (List ℕ) Refusal
+query_reply settings box is_open_at all reports target =
+    result_then (named_by target) (named_reply settings box is_open_at all reports)

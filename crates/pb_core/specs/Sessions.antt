@@ -1,5 +1,6 @@
--- Control sessions 1 to 8 are open or not. Data sessions 1 to 8 are the readers of acquisitions.
-use Rattle.std.specs.Prelude.{ℕ, ◌-◌, ◌≤◌, Bool, false, List, replicate, slice_index_or, slice_set, Option, is_some, Result, Ok, Err, if◌then◌else◌}
+-- Control sessions 1 to 8, with what was last reported to each. Data sessions 1 to 8 are the readers of acquisitions.
+use Rattle.std.specs.Prelude.{ℕ, ◌-◌, ◌≤◌, Bool, false, List, map, replicate, slice_index_or, slice_set, Option, Some, None, is_some, Result, Ok, Err, if◌then◌else◌}
+use Rattle.std.specs.Option.{unwrap_or}
 use Rattle.std.specs.List.{range_with_len}
 use Rattle.pb_words.specs.declared.Refusal.{Refusal}
 use Rattle.pb_encode.specs.declared.Options.{Options}
@@ -7,6 +8,7 @@ use Rattle.pb_acquire.specs.declared.readers.Piece.{Piece}
 use Rattle.pb_acquire.specs.declared.readers.Piece.TheVariants as pieces
 use Rattle.pb_acquire.specs.Acquisitions.{AllAcquisitions}
 use Rattle.pb_acquire.specs.Taking.{reader_of, opened, take_of, piece_of}
+use Rattle.pb_changes.specs.Report.{Reported, opening}
 use Rattle.pb_core.specs.declared.events.Answer.{Answer}
 use Rattle.pb_core.specs.declared.events.Answer.TheVariants as answers
 
@@ -19,17 +21,28 @@ pub record IsSession (id : ℕ) : Type 0 where
 abbrev pub session_ids : List ℕ
 session_ids = range_with_len 1 8
 
--- Control sessions: for each id whether it is open.
+-- Control sessions: for each id what was last reported to it, if it is open.
 
-abbrev pub none_open : List Bool
-none_open = replicate 8 false
+abbrev pub none_open : {X : Type 0} → List (Option X)
+none_open = replicate 8 None
 
-abbrev pub is_open : List Bool → ℕ → Bool
-is_open sessions id = slice_index_or sessions (id - 1) false
+-- for each id whether the session is open
+abbrev pub open_of : {X : Type 0} → List (Option X) → List Bool
+open_of sessions = map is_some sessions
 
--- the sessions where the one of this id is open or not
-abbrev pub with_session : ℕ → Bool → List Bool → List Bool
-with_session id is_open_then sessions = slice_set sessions (id - 1) is_open_then
+abbrev pub is_listed : List Bool → ℕ → Bool
+is_listed is_open_at id = slice_index_or is_open_at (id - 1) false
+
+abbrev pub is_open : {X : Type 0} → List (Option X) → ℕ → Bool
+is_open sessions id = is_listed (open_of sessions) id
+
+-- the sessions where the one of this id is open, with this, or isn't
+abbrev pub with_session : {X : Type 0} → ℕ → Option X → List (Option X) → List (Option X)
+with_session id session sessions = slice_set sessions (id - 1) session
+
+-- what was last reported to a session: nothing where it has just opened
+abbrev pub reported_to : List (Option Reported) → ℕ → Reported
+reported_to sessions id = unwrap_or (slice_index_or sessions (id - 1) None) opening
 
 -- what is answered to a session: only one that is open is told what its command or its asking gives
 abbrev pub told_if_open : Bool → Answer → Answer

@@ -17,7 +17,7 @@ use std::alloc::Global;
 
 /// What is captured, each field with its choice.
 pub(crate) fn captures_reply(alloc: Global, config: &Config) -> Result<Text, OutOfMemory>
-    ensures { IfOk result (λ text. text ≡ definition.captures_reply config.now) }
+    ensures { IfOk result (λ text. text ≡ definition.captures_reply config.now.settings) }
 {
     let layout = config.layout();
     let mut text = Text::new(alloc);

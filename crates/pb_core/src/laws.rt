@@ -1,4 +1,5 @@
-ghost use Rattle.std.specs.Prelude.{◌≡◌, ◌≢◌, ◌↔◌, ◌++◌, ℕ, Bool, List, false, None, Ok, Err, codes};
+ghost use Rattle.std.specs.Prelude.{◌≡◌, ◌≢◌, ◌↔◌, ◌⊎◌, ◌||◌, ◌++◌, ℕ, Bool, List, [], true, false, Option, None, Ok, Err, codes};
+ghost use Rattle.std.specs.List.{AllByRecursion};
 ghost use Rattle.pb_words.specs.declared.Refusal.{Refusal};
 ghost use Rattle.pb_words.specs.declared.Refusal.TheVariants as refusals;
 ghost use Rattle.pb_fields.specs.declared.Slot.{Slot};
@@ -21,51 +22,83 @@ ghost use Rattle.pb_core.specs.Core.{CoreState, opening};
 ghost use Rattle.pb_core.specs.Sessions.{is_open};
 ghost use Rattle.pb_core.specs.Holding.{HasSettings};
 ghost use Rattle.pb_core.specs.Muxes.{MuxesAreSet};
-ghost use Rattle.pb_core.specs.Naming.{named_by};
-ghost use Rattle.pb_core.specs.Queries.{query_reply};
+ghost use Rattle.pb_core.specs.Naming.{named_by, plain_names, group_names, capture_names};
+ghost use Rattle.pb_core.specs.Queries.{query_reply, slot_reply};
+ghost use Rattle.pb_replies.specs.Replies.{value_reply};
+ghost use Rattle.pb_changes.specs.declared.Group.TheVariants as groups;
+ghost use Rattle.pb_changes.specs.Groups.{is_in, is_settled};
 ghost use Rattle.pb_core.specs.Assignments.{assignment, takes_value};
+ghost use Rattle.pb_core.specs.Writing.{is_table, takes_body, table_write};
+ghost use Rattle.pb_core.specs.Telling.{shown_now, with_reported};
+ghost use Rattle.pb_changes.specs.declared.Group.{Group};
+ghost use Rattle.pb_changes.specs.Report.{Reported};
+ghost use Rattle.pb_tables.specs.Computed.{written};
+ghost use Rattle.pb_model.specs.Tables.{table_of};
 ghost use Rattle.pb_core.specs.Answer.{answer, after, after_all};
 
 /// An event that is refused leaves the core as it was, and so does one of a session that isn't open. A line that is
-/// answered by a reply does too.
+/// answered by a reply changes at most what was reported to its session.
 pub fn only_done_lines_change_the_core()
     ensures refused { (core : CoreState) (event : Event) (refusal : Refusal) → answer core event ≡ answers.Error refusal → after core event ≡ core }
     ensures closed { (core : CoreState) (event : Event) → answer core event ≡ answers.Closed → after core event ≡ core }
     ensures replied { (core : CoreState) (id : ℕ) (bytes reply : List ℕ)
-        → answer core (events.Line id bytes) ≡ answers.Reply reply → after core (events.Line id bytes) ≡ core }
+        → answer core (events.Line id bytes) ≡ answers.Reply reply
+        → (after core (events.Line id bytes) ≡ core) ⊎ ((reported : Reported) × (after core (events.Line id bytes) ≡ with_reported core id reported)) }
 {}
 
 /// First it counts whether the target names something, be it with a star, a listing or a slot; then
-/// whether that can be asked for or set; and last whether the value fits.
+/// whether that can be asked for, set or written; and last whether the value or the body fits, and whether what it asks for
+/// can be done now.
 #[tactic(auto, unfolding(pb_config::specs::Assigning::raw_given))]
 pub fn refusals_come_in_order()
-    ensures target { (settings : Settings) (box : Standing) (sessions : List Bool) (all : AllAcquisitions) (target value : List ℕ) (refusal : Refusal)
+    ensures target { (settings : Settings) (box : Standing) (is_open_at : List Bool) (all : AllAcquisitions) (reports : Option Group → List ℕ)
+        (target value body : List ℕ) (append base64 : Bool) (refusal : Refusal)
         → named_by target ≡ Err refusal
-        → (query_reply settings box sessions all target ≡ Err refusal) × (assignment settings all target value ≡ Err refusal) }
-    ensures reading { (settings : Settings) (box : Standing) (sessions : List Bool) (all : AllAcquisitions) (target : List ℕ) (slot : Slot)
+        → (query_reply settings box is_open_at all reports target ≡ Err refusal) × (assignment settings all target value ≡ Err refusal)
+        × (table_write box target append base64 body ≡ Err refusal) }
+    ensures reading { (settings : Settings) (box : Standing) (is_open_at : List Bool) (all : AllAcquisitions) (reports : Option Group → List ℕ)
+        (target : List ℕ) (slot : Slot)
         → named_by target ≡ Ok (names.Value slot) → is_readable slot ≡ false
-        → query_reply settings box sessions all target ≡ Err refusals.NotReadable }
-    ensures labels { (settings : Settings) (box : Standing) (sessions : List Bool) (all : AllAcquisitions) (target : List ℕ) (slot : Slot)
+        → query_reply settings box is_open_at all reports target ≡ Err refusals.NotReadable }
+    ensures labels { (settings : Settings) (box : Standing) (is_open_at : List Bool) (all : AllAcquisitions) (reports : Option Group → List ℕ)
+        (target : List ℕ) (slot : Slot)
         → named_by target ≡ Ok (names.Labels slot) → labels_at slot ≡ None
-        → query_reply settings box sessions all target ≡ Err refusals.NotReadable }
+        → query_reply settings box is_open_at all reports target ≡ Err refusals.NotReadable }
     ensures writing { (settings : Settings) (all : AllAcquisitions) (target value : List ℕ) (named : Named)
         → named_by target ≡ Ok named → takes_value named ≡ false
         → assignment settings all target value ≡ Err refusals.NotWriteable }
     ensures value { (settings : Settings) (all : AllAcquisitions) (target value : List ℕ) (slot : Slot) (refusal : Refusal)
         → named_by target ≡ Ok (names.Value slot) → raw_given settings slot value ≡ Err refusal
         → assignment settings all target value ≡ Err refusal }
+    ensures reset { (settings : Settings) (all : AllAcquisitions) (target value : List ℕ) (group : Option Group)
+        → named_by target ≡ Ok (names.Changes group) → value ≢ codes "S" → value ≢ codes "E" → value ≢ []
+        → assignment settings all target value ≡ Err refusals.MalformedValue }
+    ensures bodies { (box : Standing) (target body : List ℕ) (append base64 : Bool) (named : Named)
+        → named_by target ≡ Ok named → takes_body named ≡ false
+        → table_write box target append base64 body ≡ Err refusals.NotWriteable }
+    ensures body { (box : Standing) (target body : List ℕ) (append base64 : Bool) (slot : Slot) (refusal : Refusal)
+        → named_by target ≡ Ok (names.Value slot) → is_table slot ≡ true
+        → written (table_of box.blocks slot.instance) append base64 body ≡ Err refusal
+        → table_write box target append base64 body ≡ Err refusal }
 {}
 
 /// A target that begins with a star and is none of those that are known is no field, whether it is asked
 /// or set.
 pub fn unknown_star_targets_are_no_fields()
-    ensures { (settings : Settings) (box : Standing) (sessions : List Bool) (all : AllAcquisitions) (name value : List ℕ)
-        → name ≢ codes "IDN" → name ≢ codes "WHO" → name ≢ codes "BLOCKS" → name ≢ codes "POSITIONS"
-        → name ≢ codes "CAPTURE" → name ≢ codes "PCAP.ARM" → name ≢ codes "PCAP.DISARM"
-        → name ≢ codes "PCAP.STATUS" → name ≢ codes "PCAP.CAPTURED" → name ≢ codes "PCAP.COMPLETION"
+    ensures { (settings : Settings) (box : Standing) (is_open_at : List Bool) (all : AllAcquisitions) (reports : Option Group → List ℕ) (name value : List ℕ)
+        → AllByRecursion (λ known. name ≢ known) plain_names
+        → AllByRecursion (λ known. name ≢ known) group_names
+        → AllByRecursion (λ known. name ≢ known) capture_names
         → ((target : List ℕ) → name ≢ codes "ENUMS." ++ target)
-        → (query_reply settings box sessions all (codes "*" ++ name) ≡ Err refusals.NoSuchField)
+        → (query_reply settings box is_open_at all reports (codes "*" ++ name) ≡ Err refusals.NoSuchField)
         × (assignment settings all (codes "*" ++ name) value ≡ Err refusals.NoSuchField) }
+{}
+
+/// What a change report shows of a slot, be it a setting, an attribute, an output or a read field, is the value with which
+/// its query is answered.
+pub fn reports_show_what_queries_answer()
+    ensures { (settings : Settings) (box : Standing) (slot : Slot) → (is_settled slot || is_in groups.Read slot) ≡ true
+        → slot_reply settings box slot ≡ Ok (value_reply (shown_now settings box slot)) }
 {}
 
 /// In every core that events reach the settings are such as assignments reach, so the laws of pb_config

@@ -9,6 +9,7 @@ mod captures;
 mod cores;
 mod events;
 mod examples;
+mod faces;
 mod laws;
 mod meanings;
 mod placing;
@@ -29,6 +30,6 @@ pub use examples::{
 };
 pub use laws::{
     closed_sessions_are_told_so, muxes_are_set, only_done_lines_change_the_core,
-    refusals_come_in_order, settings_are_reached, the_box_has_the_settings,
-    unknown_star_targets_are_no_fields,
+    refusals_come_in_order, reports_show_what_queries_answer, settings_are_reached,
+    the_box_has_the_settings, unknown_star_targets_are_no_fields,
 };

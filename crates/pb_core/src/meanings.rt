@@ -2,10 +2,11 @@ ghost use Rattle.std.specs.Prelude.{◌≡◌, codes, position, IfOk};
 ghost use Rattle.std.specs.Option.{option_copied};
 ghost use Rattle.pb_fields.specs.Finding.{is_point};
 ghost use Rattle.pb_grammar.specs.Grammar.{after_front, before_end};
-ghost use Rattle.pb_core.specs.Naming.{has_point, labels_named, capture_named, star_named, listing_named, block_named, named_by};
+ghost use Rattle.pb_core.specs.Naming.{has_point, labels_named, capture_named, changes_named, star_named, listing_named, block_named, named_by};
 ghost use Rattle.pb_core.specs.Helpers.{IsThere};
 
 use crate::targets::Named;
+use pb_changes::Group;
 use pb_fields::Catalog;
 use pb_words::Refusal;
 
@@ -36,6 +37,10 @@ fn star_named(catalog: &Catalog, name: &[u8]) -> Result<Named, Refusal>
         Ok(Named::Positions)
     } else if name == b"CAPTURE".as_slice() {
         Ok(Named::Captures)
+    } else if name == b"CHANGES".as_slice() {
+        Ok(Named::Changes(None))
+    } else if let Some(group) = reporting(name) {
+        changes_named(group)
     } else if let Some(what) = capturing(name) {
         capture_named(what)
     } else if let Some(target) = labelled(name) {
@@ -43,6 +48,35 @@ fn star_named(catalog: &Catalog, name: &[u8]) -> Result<Named, Refusal>
     } else {
         Err(Refusal::NoSuchField)
     }
+}
+
+/// What a target of change reports names, by what stands after `*CHANGES.`.
+fn changes_named(name: &[u8]) -> Result<Named, Refusal>
+    ensures named { result ≡ changes_named name.now }
+    ensures there { IfOk result IsThere }
+{
+    if name == b"CONFIG".as_slice() {
+        Ok(Named::Changes(Some(Group::Config)))
+    } else if name == b"ATTR".as_slice() {
+        Ok(Named::Changes(Some(Group::Attr)))
+    } else if name == b"TABLE".as_slice() {
+        Ok(Named::Changes(Some(Group::Table)))
+    } else if name == b"BITS".as_slice() {
+        Ok(Named::Changes(Some(Group::Bits)))
+    } else if name == b"POSN".as_slice() {
+        Ok(Named::Changes(Some(Group::Posn)))
+    } else if name == b"READ".as_slice() {
+        Ok(Named::Changes(Some(Group::Read)))
+    } else {
+        Err(Refusal::NoSuchField)
+    }
+}
+
+/// The group whose report the name of a star target asks for.
+fn reporting(name: &[u8]) -> Option<&[u8]>
+    ensures { option_copied result ≡ after_front (codes "CHANGES.") name.now }
+{
+    name.strip_prefix(b"CHANGES.".as_slice())
 }
 
 /// What a target of capture names, by what stands after `*PCAP.`.

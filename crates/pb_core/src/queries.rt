@@ -1,11 +1,17 @@
-ghost use Rattle.std.specs.Prelude.{◌≡◌, IfOk, OnErr};
+ghost use Rattle.std.specs.Prelude.{◌≡◌, ℕ, false, List, Option, IfOk, OnOk, OnErr};
 ghost use Rattle.pb_fields.specs.Slots.{IsSlot};
 ghost use Rattle.pb_model.specs.Kept.{stands_of};
 ghost use Rattle.pb_acquire.specs.Acquisitions.{AllAcquisitions};
 ghost use Rattle.pb_acquire.specs.Kept as acquire;
-ghost use Rattle.pb_core.specs.Queries.{query_reply, named_reply, labels_or_refused};
-ghost use Rattle.pb_core.specs.Answer.{replied, IsReply};
-ghost use Rattle.pb_core.specs.Helpers.{IsThere};
+ghost use Rattle.pb_grammar.specs.Grammar.{Query};
+ghost use Rattle.pb_changes.specs.declared.Group.{Group};
+ghost use Rattle.pb_core.specs.Core.{CoreState};
+ghost use Rattle.pb_core.specs.Kept.{Agrees};
+ghost use Rattle.pb_core.specs.Naming.{named_by};
+ghost use Rattle.pb_core.specs.Sessions.{IsSession, open_of};
+ghost use Rattle.pb_core.specs.Queries.{named_reply, labels_or_refused};
+ghost use Rattle.pb_core.specs.Answer.{replied, line_answer, asked_of, IsReply};
+ghost use Rattle.pb_core.specs.Helpers.{IsThere, is_report};
 
 use crate::captures::{captured_reply, captures_reply, completion_reply, status_reply};
 use crate::cores::Core;
@@ -21,26 +27,31 @@ use pb_replies::{
 };
 use pb_words::{OutOfMemory, Refusal};
 
-/// The answer to the query of a target.
-pub(crate) fn query(core: &Core, target: &[u8]) -> Result<Answer, OutOfMemory>
-    ensures ok { (all : AllAcquisitions) → acquire.Agrees core.now.acquisitions all →
-        IfOk result (λ told. told ≡ replied (query_reply core.now.settings (stands_of core.now.box) core.now.sessions all target.now)) }
-    ensures memory { (all : AllAcquisitions) → acquire.Agrees core.now.acquisitions all →
-        OnErr result (IsReply (replied (query_reply core.now.settings (stands_of core.now.box) core.now.sessions all target.now))) }
+/// The answer to the query of a target by a session that is open. A report counts as told; else nothing changes.
+pub(crate) fn query(core: &mut Core, id: u32, target: &[u8]) -> Result<Answer, OutOfMemory>
+    requires { IsSession id }
+    ensures ok { (state : CoreState) → Agrees core.old state →
+        IfOk result (λ told. told ≡ line_answer state id (Query target.now)) }
+    ensures core { (state : CoreState) → Agrees core.old state → OnOk result (Agrees core.new (asked_of state id (named_by target.now))) }
+    ensures err { OnErr result (core.new ≡ core.old) }
+    ensures memory { (state : CoreState) → Agrees core.old state → OnErr result (IsReply (line_answer state id (Query target.now))) }
+    ensures tick { core.new.box.tick ≡ core.old.box.tick }
 {
     match named_by(core.catalog(), target) {
+        Ok(Named::Changes(group)) => core.report(id, group),
         Ok(named) => named_answer(core, named),
         Err(refusal) => Ok(Answer::Error(refusal)),
     }
 }
 
-/// The answer to the query of what is named.
+/// The answer to the query of what is named. A report is none of these.
 fn named_answer(core: &Core, named: Named) -> Result<Answer, OutOfMemory>
-    requires { IsThere named }
-    ensures ok { (all : AllAcquisitions) → acquire.Agrees core.now.acquisitions all →
-        IfOk result (λ told. told ≡ replied (named_reply core.now.settings (stands_of core.now.box) core.now.sessions all named)) }
-    ensures memory { (all : AllAcquisitions) → acquire.Agrees core.now.acquisitions all →
-        OnErr result (IsReply (replied (named_reply core.now.settings (stands_of core.now.box) core.now.sessions all named))) }
+    requires there { IsThere named }
+    requires other { is_report named ≡ false }
+    ensures ok { (all : AllAcquisitions) (reports : Option Group → List ℕ) → acquire.Agrees core.now.acquisitions all →
+        IfOk result (λ told. told ≡ replied (named_reply core.now.config.settings (stands_of core.now.box) (open_of core.now.sessions) all reports named)) }
+    ensures memory { (all : AllAcquisitions) (reports : Option Group → List ℕ) → acquire.Agrees core.now.acquisitions all →
+        OnErr result (IsReply (replied (named_reply core.now.config.settings (stands_of core.now.box) (open_of core.now.sessions) all reports named))) }
 {
     match named {
         Named::Identity => Ok(Answer::Reply(value_reply(core.alloc(), b"panda_sim 1.0")?)),
@@ -52,6 +63,7 @@ fn named_answer(core: &Core, named: Named) -> Result<Answer, OutOfMemory>
         Named::Blocks => Ok(Answer::Reply(blocks_reply(core.alloc())?)),
         Named::Positions => Ok(Answer::Reply(positions_reply(core.alloc())?)),
         Named::Captures => Ok(Answer::Reply(captures_reply(core.alloc(), core.settings())?)),
+        Named::Changes(_) => unreachable!(),
         Named::Arming | Named::Disarming => Ok(Answer::Error(Refusal::NotReadable)),
         Named::Status => Ok(Answer::Reply(status_reply(core.alloc(), core.acquisitions())?)),
         Named::Captured => Ok(Answer::Reply(captured_reply(core.alloc(), core.acquisitions())?)),

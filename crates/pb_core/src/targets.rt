@@ -1,3 +1,4 @@
+use pb_changes::Group;
 use pb_fields::Slot;
 
 /// What a target names.
@@ -13,6 +14,8 @@ pub(crate) enum Named {
     Positions,
     /// `*CAPTURE`: what is captured.
     Captures,
+    /// `*CHANGES`: what has changed, of one group or of all.
+    Changes(Option<Group>),
     /// `*PCAP.ARM`.
     Arming,
     /// `*PCAP.DISARM`.

@@ -28,8 +28,8 @@ const ROOM: usize = 128;
 /// The answer to the query of a field or an attribute.
 pub(crate) fn slot_answer(core: &Core, slot: Slot) -> Result<Answer, OutOfMemory>
     requires { IsSlot slot }
-    ensures ok { IfOk result (λ told. told ≡ replied (slot_reply core.now.settings (stands_of core.now.box) slot)) }
-    ensures memory { OnErr result (IsReply (replied (slot_reply core.now.settings (stands_of core.now.box) slot))) }
+    ensures ok { IfOk result (λ told. told ≡ replied (slot_reply core.now.config.settings (stands_of core.now.box) slot)) }
+    ensures memory { OnErr result (IsReply (replied (slot_reply core.now.config.settings (stands_of core.now.box) slot))) }
 {
     match attribute(slot) {
         None => field_answer(core, slot),
@@ -42,8 +42,8 @@ pub(crate) fn slot_answer(core: &Core, slot: Slot) -> Result<Answer, OutOfMemory
 fn field_answer(core: &Core, slot: Slot) -> Result<Answer, OutOfMemory>
     requires slot { IsSlot slot }
     requires field { attribute_at slot ≡ None }
-    ensures ok { IfOk result (λ told. told ≡ replied (slot_reply core.now.settings (stands_of core.now.box) slot)) }
-    ensures memory { OnErr result (IsReply (replied (slot_reply core.now.settings (stands_of core.now.box) slot))) }
+    ensures ok { IfOk result (λ told. told ≡ replied (slot_reply core.now.config.settings (stands_of core.now.box) slot)) }
+    ensures memory { OnErr result (IsReply (replied (slot_reply core.now.config.settings (stands_of core.now.box) slot))) }
 {
     match field_type(slot) {
         FieldType::ReadUint | FieldType::ReadEnum { .. } => read_answer(core, slot),
@@ -62,8 +62,8 @@ fn field_answer(core: &Core, slot: Slot) -> Result<Answer, OutOfMemory>
 fn attribute_answer(core: &Core, slot: Slot, attribute: Attribute) -> Result<Answer, OutOfMemory>
     requires slot { IsSlot slot }
     requires which { attribute_at slot ≡ Some attribute }
-    ensures ok { IfOk result (λ told. told ≡ replied (slot_reply core.now.settings (stands_of core.now.box) slot)) }
-    ensures memory { OnErr result (IsReply (replied (slot_reply core.now.settings (stands_of core.now.box) slot))) }
+    ensures ok { IfOk result (λ told. told ≡ replied (slot_reply core.now.config.settings (stands_of core.now.box) slot)) }
+    ensures memory { OnErr result (IsReply (replied (slot_reply core.now.config.settings (stands_of core.now.box) slot))) }
 {
     match attribute {
         Attribute::Labels => Ok(Answer::Reply(labels_reply(core.alloc(), field_slot(slot))?)),
@@ -84,8 +84,8 @@ fn attribute_answer(core: &Core, slot: Slot, attribute: Attribute) -> Result<Ans
 fn length_answer(core: &Core, slot: Slot) -> Result<Answer, OutOfMemory>
     requires slot { IsSlot slot }
     requires which { attribute_at slot ≡ Some Attribute.Length }
-    ensures ok { IfOk result (λ told. told ≡ replied (slot_reply core.now.settings (stands_of core.now.box) slot)) }
-    ensures memory { OnErr result (IsReply (replied (slot_reply core.now.settings (stands_of core.now.box) slot))) }
+    ensures ok { IfOk result (λ told. told ≡ replied (slot_reply core.now.config.settings (stands_of core.now.box) slot)) }
+    ensures memory { OnErr result (IsReply (replied (slot_reply core.now.config.settings (stands_of core.now.box) slot))) }
 {
     let length = core.table(slot.instance).len() as u64;
     Ok(Answer::Reply(number_reply(core.alloc(), length)?))
@@ -95,8 +95,8 @@ fn length_answer(core: &Core, slot: Slot) -> Result<Answer, OutOfMemory>
 fn setting_answer(core: &Core, slot: Slot) -> Result<Answer, OutOfMemory>
     requires slot { IsSlot slot }
     requires line { is_line slot ≡ true }
-    ensures ok { IfOk result (λ told. told ≡ replied (slot_reply core.now.settings (stands_of core.now.box) slot)) }
-    ensures memory { OnErr result (IsReply (replied (slot_reply core.now.settings (stands_of core.now.box) slot))) }
+    ensures ok { IfOk result (λ told. told ≡ replied (slot_reply core.now.config.settings (stands_of core.now.box) slot)) }
+    ensures memory { OnErr result (IsReply (replied (slot_reply core.now.config.settings (stands_of core.now.box) slot))) }
 {
     let mut out = [0; ROOM];
     match core.settings().show(slot, &mut out) {
@@ -111,8 +111,8 @@ fn read_answer(core: &Core, slot: Slot) -> Result<Answer, OutOfMemory>
     requires slot { IsSlot slot }
     requires field { attribute_at slot ≡ None }
     requires reported { is_reported (type_at slot) ≡ true }
-    ensures ok { IfOk result (λ told. told ≡ replied (slot_reply core.now.settings (stands_of core.now.box) slot)) }
-    ensures memory { OnErr result (IsReply (replied (slot_reply core.now.settings (stands_of core.now.box) slot))) }
+    ensures ok { IfOk result (λ told. told ≡ replied (slot_reply core.now.config.settings (stands_of core.now.box) slot)) }
+    ensures memory { OnErr result (IsReply (replied (slot_reply core.now.config.settings (stands_of core.now.box) slot))) }
 {
     raw_answer(core, kind(slot), core.read(slot))
 }
@@ -122,8 +122,8 @@ fn level_answer(core: &Core, slot: Slot) -> Result<Answer, OutOfMemory>
     requires slot { IsSlot slot }
     requires field { attribute_at slot ≡ None }
     requires output { type_at slot ≡ FieldType.BitOut }
-    ensures ok { IfOk result (λ told. told ≡ replied (slot_reply core.now.settings (stands_of core.now.box) slot)) }
-    ensures memory { OnErr result (IsReply (replied (slot_reply core.now.settings (stands_of core.now.box) slot))) }
+    ensures ok { IfOk result (λ told. told ≡ replied (slot_reply core.now.config.settings (stands_of core.now.box) slot)) }
+    ensures memory { OnErr result (IsReply (replied (slot_reply core.now.config.settings (stands_of core.now.box) slot))) }
 {
     raw_answer(core, kind(slot), bit_raw(core.level(output_entry(slot))))
 }
@@ -133,8 +133,8 @@ fn position_answer(core: &Core, slot: Slot) -> Result<Answer, OutOfMemory>
     requires slot { IsSlot slot }
     requires field { attribute_at slot ≡ None }
     requires output { type_at slot ≡ FieldType.PosOut }
-    ensures ok { IfOk result (λ told. told ≡ replied (slot_reply core.now.settings (stands_of core.now.box) slot)) }
-    ensures memory { OnErr result (IsReply (replied (slot_reply core.now.settings (stands_of core.now.box) slot))) }
+    ensures ok { IfOk result (λ told. told ≡ replied (slot_reply core.now.config.settings (stands_of core.now.box) slot)) }
+    ensures memory { OnErr result (IsReply (replied (slot_reply core.now.config.settings (stands_of core.now.box) slot))) }
 {
     raw_answer(core, kind(slot), int_raw(position(core, slot)))
 }
@@ -154,8 +154,8 @@ fn raw_answer(core: &Core, kind: FieldKind, raw: u64) -> Result<Answer, OutOfMem
 fn scaled_answer(core: &Core, slot: Slot) -> Result<Answer, OutOfMemory>
     requires slot { IsSlot slot }
     requires which { attribute_at slot ≡ Some Attribute.Scaled }
-    ensures ok { IfOk result (λ told. told ≡ replied (slot_reply core.now.settings (stands_of core.now.box) slot)) }
-    ensures memory { OnErr result (IsReply (replied (slot_reply core.now.settings (stands_of core.now.box) slot))) }
+    ensures ok { IfOk result (λ told. told ≡ replied (slot_reply core.now.config.settings (stands_of core.now.box) slot)) }
+    ensures memory { OnErr result (IsReply (replied (slot_reply core.now.config.settings (stands_of core.now.box) slot))) }
 {
     scaled_number_answer(core, slot, position(core, slot))
 }
@@ -164,7 +164,7 @@ fn scaled_answer(core: &Core, slot: Slot) -> Result<Answer, OutOfMemory>
 fn scaled_number_answer(core: &Core, slot: Slot, value: i32) -> Result<Answer, OutOfMemory>
     requires slot { IsSlot slot }
     requires which { attribute_at slot ≡ Some Attribute.Scaled }
-    ensures { IfOk result (λ told. told ≡ Answer.Reply (value_reply (scaled_shown core.now.settings slot value))) }
+    ensures { IfOk result (λ told. told ≡ Answer.Reply (value_reply (scaled_shown core.now.config.settings slot value))) }
 {
     let mut out = [0; ROOM];
     let len = core.settings().show_scaled(slot, value, &mut out);

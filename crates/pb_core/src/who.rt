@@ -3,7 +3,7 @@ ghost use Rattle.std.specs.List.{flat_map};
 ghost use Rattle.pb_acquire.specs.Acquisitions.{AllAcquisitions};
 ghost use Rattle.pb_acquire.specs.Kept as acquire;
 ghost use Rattle.pb_replies.specs.Replies.{listed};
-ghost use Rattle.pb_core.specs.Sessions.{session_ids, is_open, is_reading};
+ghost use Rattle.pb_core.specs.Sessions.{session_ids, open_of, is_open, is_reading};
 ghost use Rattle.pb_core.specs.Who.{session_line, who_reply};
 
 use crate::sessions::Sessions;
@@ -18,7 +18,7 @@ pub(crate) fn who_reply(
     sessions: &Sessions,
     acquisitions: &Acquisitions,
 ) -> Result<Text, OutOfMemory>
-    ensures { (all : AllAcquisitions) → acquire.Agrees acquisitions.now all → IfOk result (λ text. text ≡ who_reply sessions.now all) }
+    ensures { (all : AllAcquisitions) → acquire.Agrees acquisitions.now all → IfOk result (λ text. text ≡ who_reply (open_of sessions.now) all) }
 {
     let mut text = Text::new(alloc);
     list_control(&mut text, sessions)?;

@@ -2,8 +2,9 @@ ghost use Rattle.std.specs.Prelude.{◌≡◌};
 ghost use Rattle.pb_fields.specs.Slots.{IsSlot};
 ghost use Rattle.pb_model.specs.Kept.{stands_of};
 ghost use Rattle.pb_core.specs.Writing.{is_table, slot_written, table_write};
-ghost use Rattle.pb_core.specs.Answer.{done};
-ghost use Rattle.pb_core.specs.Helpers.{kept_written_by};
+ghost use Rattle.pb_core.specs.Answer.{done, written_by};
+ghost use Rattle.pb_core.specs.Core.{CoreState};
+ghost use Rattle.pb_core.specs.Kept.{Agrees};
 
 use crate::cores::Core;
 use crate::events::Answer;
@@ -21,7 +22,8 @@ pub(crate) fn write(
     body: &[u8],
 ) -> Answer
     ensures answer { result ≡ done (table_write (stands_of core.old.box) target.now append base64 body.now) }
-    ensures core { core.new ≡ kept_written_by core.old (table_write (stands_of core.old.box) target.now append base64 body.now) }
+    ensures core { (state : CoreState) → Agrees core.old state → Agrees core.new (written_by state (table_write state.box.stands target.now append base64 body.now)) }
+    ensures tick { core.new.box.tick ≡ core.old.box.tick }
 {
     match named_by(core.catalog(), target) {
         Ok(Named::Value(slot)) => write_slot(core, slot, append, base64, body),
@@ -31,14 +33,14 @@ pub(crate) fn write(
 }
 
 /// The answer to a table write to a field or an attribute, which only the table of a sequencer takes.
-#[tactic(auto, using(crate::proofs::TableLemmas::table_number))]
 fn write_slot(core: &mut Core, slot: Slot, append: bool, base64: bool, body: &[u8]) -> Answer
     requires { IsSlot slot }
     ensures answer { result ≡ done (slot_written (stands_of core.old.box) append base64 body.now slot) }
-    ensures core { core.new ≡ kept_written_by core.old (slot_written (stands_of core.old.box) append base64 body.now slot) }
+    ensures core { (state : CoreState) → Agrees core.old state → Agrees core.new (written_by state (slot_written state.box.stands append base64 body.now slot)) }
+    ensures tick { core.new.box.tick ≡ core.old.box.tick }
 {
     if is_table(slot) {
-        core.write_table(slot.instance, append, base64, body)
+        core.write_table(slot, append, base64, body)
     } else {
         Answer::Error(Refusal::NotWriteable)
     }

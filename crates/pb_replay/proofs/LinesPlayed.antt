@@ -7,6 +7,7 @@ use Rattle.pb_core.specs.declared.Event.TheVariants as events
 use Rattle.pb_core.specs.Answer.{CoreState, after, after_all}
 use Rattle.pb_core.specs.Kept.{KeptCore, Agrees}
 use Rattle.pb_core.specs.Sessions.{is_open, is_reading}
+use Rattle.pb_core.proofs.MarkLemmas.{open_same}
 use Rattle.pb_replay.specs.declared.played.Played.{Played}
 use Rattle.pb_replay.specs.declared.played.Played.TheVariants as ends
 use Rattle.pb_replay.specs.Script.{Timed, Command, OpenData}
@@ -77,7 +78,7 @@ last_writes bytes p q end old now h = subst (λ b. PlaysOn b end p old q now) (s
 
 -- a session is open in a core where it is in what is kept of that
 open_as : (state : CoreState) (kept : KeptCore) (session : ℕ) (there : Bool) → Agrees kept state → is_open kept.sessions session ≡ there → is_open state.sessions session ≡ there
-open_as state kept session there agrees h = ap (λ sessions. is_open sessions session) (sym agrees.sessions) ∙ h
+open_as state kept session there agrees h = sym (open_same kept.sessions state.sessions session agrees.sessions) ∙ h
 
 -- its command is written
 pub next_plays : (state : CoreState) (kept : KeptCore) (waiting : List (List ℕ)) (tick session : ℕ) (text : List ℕ) (end : Played) (before p q : List ℕ) (old now : Option (List ℕ)) →

@@ -2,7 +2,7 @@ ghost use Rattle.pb_fields.specs.Slots.{IsSlot};
 
 use crate::fields::slot_of;
 use pb_config::{Config, field_slot, has_line};
-use pb_fields::{Attribute, Catalog, Slot, attribute, following};
+use pb_fields::{Attribute, Catalog, Role, Slot, attribute, following, role};
 use pb_model::Change;
 use pb_words::Refusal;
 use std::alloc::Global;
@@ -116,5 +116,41 @@ fn count_of_taken(rt: &impl Abort, config: &mut Config) -> u32 {
 fn every_slot_takes_what_it_prints(rt: HostRuntime) -> Result<(), Fail> {
     let mut config = fresh(rt.alloc())?;
     assert_eq!(rt; count_of_taken(&rt, &mut config), 421);
+    Ok(())
+}
+
+#[test]
+fn each_accepted_assignment_counts(rt: HostRuntime) -> Result<(), Fail> {
+    let catalog = Catalog::new(rt.alloc())?;
+    let mut config = fresh(rt.alloc())?;
+    let bit = slot_of(&catalog, "BITS.A")?;
+    assert_eq!(rt; config.assigned_at(bit), 0);
+    assert!(rt; config.assign(bit, b"1").is_ok());
+    assert!(rt; config.assign(bit, b"1").is_ok());
+    assert_eq!(rt; config.assigned_at(bit), 2);
+    assert_eq!(rt; config.assign(bit, b"x"), Err(Refusal::MalformedValue));
+    assert_eq!(rt; config.assigned_at(bit), 2);
+    assert_eq!(rt; config.assignments(), 2);
+    Ok(())
+}
+
+#[test]
+fn assignments_count_for_the_slot_that_they_set(rt: HostRuntime) -> Result<(), Fail> {
+    let catalog = Catalog::new(rt.alloc())?;
+    let mut config = fresh(rt.alloc())?;
+    let delay = slot_of(&catalog, "PULSE1.DELAY")?;
+    let raw = slot_of(&catalog, "PULSE1.DELAY.RAW")?;
+    let units = slot_of(&catalog, "PULSE1.DELAY.UNITS")?;
+    let table = slot_of(&catalog, "SEQ1.TABLE")?;
+    assert!(rt; config.assign(raw, b"5").is_ok());
+    assert!(rt; config.assign(units, b"ms").is_ok());
+    let Role::Table = role(table) else {
+        panic!(rt; "{table:?}");
+    };
+    config.note(table);
+    assert_eq!(rt; config.assigned_at(delay), 1);
+    assert_eq!(rt; config.assigned_at(raw), 0);
+    assert_eq!(rt; config.assigned_at(units), 2);
+    assert_eq!(rt; config.assigned_at(table), 3);
     Ok(())
 }

@@ -3,6 +3,7 @@ use Rattle.std.specs.Int.{w32}
 use Rattle.std.proofs.lemmas.Int.{to_z-of_z}
 use Rattle.std.proofs.lemmas.List.{take_at}
 use Rattle.pb_config.specs.Settings.{Settings}
+use Rattle.pb_config.specs.KeptConfig.{KeptConfig}
 use Rattle.pb_config.specs.Showing.{scaled_shown}
 use Rattle.pb_replies.specs.Replies.{value_reply}
 use Rattle.pb_core.specs.declared.events.Answer.TheVariants as answers
@@ -13,4 +14,4 @@ returns c =
     let same = to_z-of_z w32 c.args.value c.ranges.value in
     let text = λ (settings : Settings) (value : ℤ). scaled_shown settings c.args.slot value in
     let front = ap (take c.show_scaled-len.result) c.show_scaled-len.ensures.written ∙ take_at _ _ _ (sym c.show_scaled-len.ensures.len) in
-    ap answers.Reply (c.in_ok-value_reply.ensures ∙ ap value_reply (front ∙ ap (text c.settings.result.now) same ∙ ap (λ settings. text settings c.args.value) c.settings.ensures))
+    ap answers.Reply (c.in_ok-value_reply.ensures ∙ ap value_reply (front ∙ ap (text c.settings.result.now.settings) same ∙ ap (λ (kept : KeptConfig). text kept.settings c.args.value) c.settings.ensures))

@@ -1,8 +1,7 @@
-use Rattle.std.proofs.Common.{[], map, slice_set, ap, ◌∙◌, arith}
+use Rattle.std.proofs.Common.{[], map, ap, ◌∙◌, arith}
 use Rattle.std.specs.List.{range_with_len}
-use Rattle.pb_config.specs.Settings.{Settings, place}
 use Rattle.pb_fields.specs.declared.Slot.{Slot}
-use Rattle.pb_config.specs.Capturing.{without_captures}
+use Rattle.pb_config.specs.KeptConfig.{KeptConfig, with_raw, with_clearing}
 use Rattle.pb_config.proofs.CapturingLemmas.{positions, own, all_slots, one_cleared, all_cleared}
 use Rattle.pb_config.proofs.configs.Config.clear_captures.Goals as goal
 
@@ -11,23 +10,23 @@ loop-entry-init c = all_slots c.args.self.now
 
 pub loop-entry-preserved : goal.loop-entry-preserved
 loop-entry-preserved c =
-    let settings : Settings = c.loop-entry.self in
-    one_cleared positions (map own (range_with_len 32 8)) settings c.keep_raw.new.self (without_captures c.args.self.now)
+    let kept : KeptConfig = c.loop-entry.self in
+    one_cleared positions (map own (range_with_len 32 8)) kept c.set.new.self (with_clearing c.args.self.now)
     c.loop-entry.entry 12 c.loop-entry-test.true
-    (c.keep_raw.ensures ∙ ap (λ n. record settings { raws = slice_set settings.raws (place c.position_slot.result) n }) c.from.ensures
-    ∙ ap (λ (s : Slot). record settings { raws = slice_set settings.raws (place s) 0 }) c.position_slot.ensures.output)
+    (c.set.ensures ∙ ap (λ n. with_raw kept c.position_slot.result n) c.from.ensures
+    ∙ ap (λ (s : Slot). with_raw kept s 0) c.position_slot.ensures.output)
     c.loop-entry.invariant
 
 pub loop-entry-2-init : goal.loop-entry-2-init
 loop-entry-2-init c =
-    all_cleared positions (map own (range_with_len 32 8)) c.loop-entry.self (without_captures c.args.self.now)
+    all_cleared positions (map own (range_with_len 32 8)) c.loop-entry.self (with_clearing c.args.self.now)
     c.loop-entry.entry 12 (omega (arith, c.loop-entry-test.false)) c.loop-entry.invariant
 
 pub loop-entry-2-preserved : goal.loop-entry-2-preserved
 loop-entry-2-preserved c =
-    let settings : Settings = c.loop-entry-2.self in
-    one_cleared own [] settings c.keep_raw-in-loop-entry-2.new.self (without_captures c.args.self.now)
+    let kept : KeptConfig = c.loop-entry-2.self in
+    one_cleared own [] kept c.set-in-loop-entry-2.new.self (with_clearing c.args.self.now)
     c.loop-entry-2.entry 40 c.loop-entry-2-test.true
-    (c.keep_raw-in-loop-entry-2.ensures ∙ ap (λ n. record settings { raws = slice_set settings.raws (place c.own_slot.result) n }) c.from-in-loop-entry-2.ensures
-    ∙ ap (λ (s : Slot). record settings { raws = slice_set settings.raws (place s) 0 }) c.own_slot.ensures.output)
+    (c.set-in-loop-entry-2.ensures ∙ ap (λ n. with_raw kept c.own_slot.result n) c.from-in-loop-entry-2.ensures
+    ∙ ap (λ (s : Slot). with_raw kept s 0) c.own_slot.ensures.output)
     c.loop-entry-2.invariant

@@ -8,14 +8,14 @@ use Rattle.pb_config.proofs.configs.Config.layout.Given as goal
 abbrev pub invariant-loop-entry : goal.invariant-loop-entry
 invariant-loop-entry l =
     record {
-      made : l.layout ++ flat_map (captured_position l.self) (range_with_len l.entry (12 - l.entry))
-          ≡ flat_map (captured_position l.self) (range_with_len 0 12);
+      made : l.layout ++ flat_map (captured_position l.self.settings) (range_with_len l.entry (12 - l.entry))
+          ≡ flat_map (captured_position l.self.settings) (range_with_len 0 12);
       below : All (λ (field : Field). field.entry < l.entry) l.layout;
     }
 
 abbrev pub invariant-loop-entry-2 : goal.invariant-loop-entry-2
 invariant-loop-entry-2 l =
     record {
-      made : l.layout ++ flat_map (captured_own l.self) (range_with_len l.entry (40 - l.entry)) ≡ layout_of l.self;
+      made : l.layout ++ flat_map (captured_own l.self.settings) (range_with_len l.entry (40 - l.entry)) ≡ layout_of l.self.settings;
       below : All (λ (field : Field). field.entry < l.entry) l.layout;
     }

@@ -23,7 +23,7 @@ put_rows-self-inside-requires-clause-levels g c =
 pub returns-clause-agrees : goal.returns-clause-agrees
 returns-clause-agrees g c = λ core h.
     let inside = c.self.inside in
-    let kept : KeptCore = record { rows = inside.stimulus; settings = inside.config; box = inside.state; sessions = inside.sessions; acquisitions = inside.acquisitions } in
+    let kept : KeptCore = record { rows = inside.stimulus; config = inside.config; box = inside.state; sessions = inside.sessions; acquisitions = inside.acquisitions } in
     stepped kept core inside.stimulus c.put_rows-self-inside.new.values c.tick-emit.new.state c.put_values.new.state
     c.tick-emit.result c.take.new.acquisitions
     (ap (λ (k : Kept). k.tick) c.tick-emit.ensures.kept) refl

@@ -1,0 +1,48 @@
+use Rattle.std.proofs.Common.{◌≡◌, false, Ok, Err, IfOk, refl, sym, ap, subst, ◌∙◌, rules}
+use Rattle.pb_core.specs.Answer.{IsReply}
+use Rattle.pb_core.specs.Helpers.{is_report}
+use Rattle.pb_core.specs.Telling.{reports_to}
+use Rattle.pb_core.proofs.DeedLemmas.{where_ok, where_err, always_ok, always_err}
+use Rattle.pb_core.proofs.QueryLemmas.{kept_reply, report_reply, refused_reply, report_left, other_left, refused_left}
+use Rattle.pb_core.proofs.queries.query.Goals as goal
+
+pub returns-in-Ok-Changes-clause-ok : goal.returns-in-Ok-Changes-clause-ok
+returns-in-Ok-Changes-clause-ok c = λ state h.
+    subst (λ told. IfOk c.report.result (λ given. given ≡ told))
+    (report_reply state c.args.id c.args.target.now c.in-Ok-Changes.group
+    (sym c.named_by.ensures.named ∙ (c.in-Ok-Changes.is ∙ ap (λ named. Ok named) c.in-Ok-Changes.field-0-is)))
+    (c.report.ensures.answer state h)
+
+pub returns-in-Ok-Changes-clause-core : goal.returns-in-Ok-Changes-clause-core
+returns-in-Ok-Changes-clause-core c = λ state h.
+    where_ok c.report.result _ _
+    (report_left c.report.new.self state c.args.id c.args.target.now c.in-Ok-Changes.group
+    (sym c.named_by.ensures.named ∙ (c.in-Ok-Changes.is ∙ ap (λ named. Ok named) c.in-Ok-Changes.field-0-is)))
+    (c.report.ensures.core state h)
+
+pub returns-in-Ok-Changes-clause-memory : goal.returns-in-Ok-Changes-clause-memory
+returns-in-Ok-Changes-clause-memory c = λ state h.
+    always_err c.report.result _
+    (subst IsReply
+    (report_reply state c.args.id c.args.target.now c.in-Ok-Changes.group
+    (sym c.named_by.ensures.named ∙ (c.in-Ok-Changes.is ∙ ap (λ named. Ok named) c.in-Ok-Changes.field-0-is)))
+    tt)
+
+pub returns-in-Ok : goal.returns-in-Ok
+returns-in-Ok c =
+    let e = sym c.named_by.ensures.named ∙ c.in-Ok.is in
+    let other : is_report c.in-Ok.named ≡ false = search rules in
+    record {
+      ok = λ state h.
+          subst (λ told. IfOk c.named_answer.result (λ given. given ≡ told))
+          (kept_reply c.args.core.now state c.args.id c.args.target.now c.in-Ok.named h e)
+          (c.named_answer.ensures.ok state.acquisitions (reports_to state c.args.id) h.acquisitions);
+      core = λ state h.
+          always_ok c.named_answer.result _ (other_left c.args.core.now state c.args.id c.args.target.now c.in-Ok.named e other h);
+      err = always_err c.named_answer.result _ refl;
+      memory = λ state h.
+          where_err c.named_answer.result _ _
+          (subst IsReply (kept_reply c.args.core.now state c.args.id c.args.target.now c.in-Ok.named h e))
+          (c.named_answer.ensures.memory state.acquisitions (reports_to state c.args.id) h.acquisitions);
+      tick = refl;
+    }

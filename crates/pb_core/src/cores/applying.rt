@@ -1,0 +1,117 @@
+ghost use Rattle.std.specs.Prelude.{◌≡◌, ◌+◌, ◌-◌, ◌*◌, IfOk, OnOk, OnErr};
+ghost use Rattle.pb_grammar.specs.Grammar.{command_of};
+ghost use Rattle.pb_core.specs.Answer.{CoreState, CanHappen, answer, IsTold, after_told, EventMayLack, MayLack, line_answer, left_if_open, said_after};
+ghost use Rattle.pb_core.specs.Kept.{Agrees};
+ghost use Rattle.pb_core.specs.Sessions.{IsSession, is_open, told_if_open};
+ghost use Rattle.pb_core.specs.declared.events.Answer.TheVariants as answers;
+
+use crate::assignments::assign;
+use crate::cores::Core;
+use crate::events::{Answer, Event};
+use crate::queries::query;
+use crate::reading::{open_reader, take_piece};
+use crate::writes::write;
+use pb_grammar::{Command, parse};
+use pb_replies::value_reply;
+use pb_words::{OutOfMemory, Refusal, Steps};
+use std::sync::ledger::Ledger;
+
+impl Core {
+    /// Lets an event happen, and answers it. Want of memory comes only in the place of a reply or a piece and where an
+    /// acquisition is to be armed, and changes nothing. The counter goes up by one for each step of a block: there are 35 at each tick.
+    pub fn apply<L: Ledger>(
+        &mut self,
+        event: &Event,
+        steps: &mut Steps<L>,
+    ) -> Result<Answer, OutOfMemory>
+        requires { CanHappen event.now }
+        ensures ok { (core : CoreState) → Agrees self.old core → IfOk result (IsTold core event.now) }
+        ensures core { (core : CoreState) → Agrees self.old core → IfOk result (λ told. Agrees self.new (after_told core event.now told)) }
+        ensures err { OnErr result (self.new ≡ self.old) }
+        ensures memory { (core : CoreState) → Agrees self.old core → OnErr result (EventMayLack event.now (answer core event.now)) }
+        ensures counts { steps.new ≡ steps.old + 35 * (self.new.box.tick - self.old.box.tick) }
+    {
+        match event {
+            Event::OpenControl { id } => {
+                self.sessions.open(*id);
+                Ok(Answer::Nothing)
+            }
+            Event::Line { id, text } => self.line_of(*id, text.bytes()),
+            Event::Bad { id, refusal } => Ok(self.bad(*id, *refusal)),
+            Event::CloseControl { id } => {
+                self.sessions.close(*id);
+                Ok(Answer::Nothing)
+            }
+            Event::OpenData { id, options } => {
+                Ok(open_reader(&mut self.acquisitions, *id, options.bytes()))
+            }
+            Event::Take { id } => take_piece(&mut self.acquisitions, *id),
+            Event::CloseData { id } => {
+                self.acquisitions.close(*id);
+                Ok(Answer::Nothing)
+            }
+            Event::Advance { to } => {
+                let why = self.advance(*to, steps);
+                Ok(Answer::Reached {
+                    tick: self.now(),
+                    why,
+                })
+            }
+        }
+    }
+
+    /// The answer to a whole command of a session, which is answered only if it is open.
+    fn line_of(&mut self, id: u32, bytes: &[u8]) -> Result<Answer, OutOfMemory>
+        requires { IsSession id }
+        ensures ok { (core : CoreState) → Agrees self.old core →
+            IfOk result (λ told. told ≡ told_if_open (is_open core.sessions id) (line_answer core id (command_of bytes.now))) }
+        ensures core { (core : CoreState) → Agrees self.old core → OnOk result (Agrees self.new (left_if_open core id (command_of bytes.now))) }
+        ensures err { OnErr result (self.new ≡ self.old) }
+        ensures memory { (core : CoreState) → Agrees self.old core →
+            OnErr result (MayLack (command_of bytes.now) (told_if_open (is_open core.sessions id) (line_answer core id (command_of bytes.now)))) }
+        ensures tick { self.new.box.tick ≡ self.old.box.tick }
+    {
+        if self.is_open(id) {
+            self.line(id, bytes)
+        } else {
+            Ok(Answer::Closed)
+        }
+    }
+
+    /// The answer to a command that was refused as it was put together.
+    fn bad(&self, id: u32, refusal: Refusal) -> Answer
+        requires { IsSession id }
+        ensures { (core : CoreState) → Agrees self.now core → result ≡ told_if_open (is_open core.sessions id) (answers.Error refusal) }
+    {
+        if self.is_open(id) {
+            Answer::Error(refusal)
+        } else {
+            Answer::Closed
+        }
+    }
+
+    /// The answer to a whole command of a session that is open.
+    fn line(&mut self, id: u32, bytes: &[u8]) -> Result<Answer, OutOfMemory>
+        requires { IsSession id }
+        ensures ok { (core : CoreState) → Agrees self.old core →
+            IfOk result (λ told. told ≡ line_answer core id (command_of bytes.now)) }
+        ensures core { (core : CoreState) → Agrees self.old core → OnOk result (Agrees self.new (said_after core id (command_of bytes.now))) }
+        ensures err { OnErr result (self.new ≡ self.old) }
+        ensures memory { (core : CoreState) → Agrees self.old core →
+            OnErr result (MayLack (command_of bytes.now) (line_answer core id (command_of bytes.now))) }
+        ensures tick { self.new.box.tick ≡ self.old.box.tick }
+    {
+        match parse(bytes) {
+            Command::Query(target) => query(self, id, target),
+            Command::Assign(target, value) => assign(self, id, target, value),
+            Command::Table {
+                target,
+                append,
+                base64,
+                body,
+            } => { Ok(write(self, target, append, base64, body)) }
+            Command::Echo(text) => Ok(Answer::Reply(value_reply(self.alloc, text)?)),
+            Command::Bad(refusal) => Ok(Answer::Error(refusal)),
+        }
+    }
+}
