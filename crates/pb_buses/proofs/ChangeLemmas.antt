@@ -1,5 +1,5 @@
 -- The ticks of the last changes, and the states of the bus.
-use Rattle.std.proofs.Common.{◌≡◌, ◌≢◌, ℕ, suc, ◌+◌, ◌-◌, ◌<◌, ◌≤◌, ◌==◌, ◌⊎◌, inl, inr, ℤ, pos, Bool, true, false, List, [], ◌∷◌, length, set, get_or, refl, ap, sym, subst, ◌∙◌, arith, if◌then◌else◌}
+use Rattle.std.proofs.Common.{◌≡◌, ◌≢◌, ℕ, zero, suc, ◌+◌, ◌-◌, ◌<◌, ◌≤◌, ◌==◌, ◌⊎◌, inl, inr, ℤ, pos, Bool, true, false, List, [], ◌∷◌, ◌++◌, replicate, length, set, get_or, refl, ap, sym, subst, ◌∙◌, arith, if◌then◌else◌}
 use Rattle.std.specs.Ordering.{int_eq}
 use Rattle.std.proofs.Math.Bool.{beq}
 use Rattle.std.specs.Cmp.{booleans_Decides}
@@ -149,6 +149,20 @@ tick_agrees buses past h =
       entries = h.entries;
       changes = λ entry small. h.changes entry small ∙ sym (last_stays entry buses.bus buses.bus past refl);
     }
+
+-- many ticks pass, and the bus stands
+pub ticks_agree :
+    (buses : Buses) (past : List Bus) (n : ℕ) → AgreesWithPast buses past →
+    AgreesWithPast buses (replicate n buses.bus ++ past)
+ticks_agree buses past zero h = h
+ticks_agree buses past (suc n) h = tick_agrees buses (replicate n buses.bus ++ past) (ticks_agree buses past n h)
+
+-- a put of what stands
+pub same_bit : (buses : Buses) (i tick : ℕ) → with_bit buses i (bit buses.bus i) tick ≡ buses
+same_bit buses i tick = rw ((booleans_Decides (bit buses.bus i) (bit buses.bus i)).1 refl) refl
+
+pub same_position : (buses : Buses) (i tick : ℕ) → with_position buses i (position buses.bus i) tick ≡ buses
+same_position buses i tick = rw ((Decides-int_eq (position buses.bus i) (position buses.bus i)).1 refl) refl
 
 -- an entry that stands as before didn't change at this tick
 pub unchanged_at :

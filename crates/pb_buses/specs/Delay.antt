@@ -1,5 +1,5 @@
 -- Bit inputs: what a mux selects, and the delay line behind it.
-use Rattle.std.specs.Prelude.{ℕ, zero, suc, ◌/◌, ◌%◌, ◌==◌, Bool, false, List, [], ◌∷◌, ◌++◌, take, replicate, slice_index_or}
+use Rattle.std.specs.Prelude.{◌≡◌, ◌≢◌, ℕ, zero, suc, ◌<◌, ◌/◌, ◌%◌, ◌==◌, Bool, false, List, [], ◌∷◌, ◌++◌, take, replicate, slice_index_or, Option, Some, None}
 use Rattle.pb_names.specs.declared.bit_bus.TheConstants as bit_bus
 
 -- A bit input of a block: the raw value that says what it selects, its delay in ticks, and its delay
@@ -25,6 +25,23 @@ pushed line value ticks = take bit_bus.MAX_DELAY (replicate ticks value ++ line)
 -- the input so many ticks later, at all of which it selected this value
 abbrev pub shifted : BitInput → Bool → ℕ → BitInput
 shifted input value ticks = record input { line = pushed input.line value ticks }
+
+-- what the input selected at the tick before
+abbrev pub latest : BitInput → Bool
+latest input = slice_index_or input.line 0 false
+
+-- what the block sees of the input so many ticks later, where it selects this value now and goes on to
+abbrev pub later : BitInput → Bool → ℕ → Bool
+later input value ticks = seen (shifted input value ticks) value
+
+-- The next change of what the block sees of an input that selects this value now and goes on to: the number of
+-- ticks after which it sees something else than now for the first time, or none where it never does.
+abbrev pub IsNextChange : BitInput → Bool → Option ℕ → Type 0
+IsNextChange input value None = (ticks : ℕ) → later input value ticks ≡ seen input value
+IsNextChange input value (Some n) =
+    (0 < n)
+    × ((ticks : ℕ) → ticks < n → later input value ticks ≡ seen input value)
+    × (later input value n ≢ seen input value)
 
 -- the input with another selection: its line keeps what was selected before
 abbrev pub wired : BitInput → ℕ → BitInput

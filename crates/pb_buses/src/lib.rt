@@ -15,6 +15,8 @@ pub use edges::Edge;
 pub use emits::{Condition, Emit, Record};
 pub use entries::{Bus, Buses};
 pub use inputs::{Inputs, Outputs};
-pub use laws::{delay_lines_keep_the_past, puts_keep_the_last_changes, steps_add_up};
+pub use laws::{
+    delay_lines_keep_the_past, next_changes_come_nearer, puts_keep_the_last_changes, steps_add_up,
+};
 pub use machines::Machine;
 pub use muxes::Mux;

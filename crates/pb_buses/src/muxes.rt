@@ -1,5 +1,5 @@
-ghost use Rattle.std.specs.Prelude.{◌≡◌, ◌≤◌, ◌∷◌, false, slice_index_or};
-ghost use Rattle.pb_buses.specs.Delay.{seen, shifted, wired, delayed, opening_input, digits, pushed};
+ghost use Rattle.std.specs.Prelude.{◌≡◌, ◌≤◌, ◌∷◌, false, slice_index_or, IfSome};
+ghost use Rattle.pb_buses.specs.Delay.{seen, shifted, wired, delayed, opening_input, latest, digits, pushed, IsNextChange};
 
 use pb_names::bit_bus;
 use std::marker::Model;
@@ -35,6 +35,17 @@ impl Mux {
             select: bit_bus::ZERO,
             delay: 0,
             line: 0,
+        }
+    }
+
+    /// The same input once more.
+    pub fn copy(&self) -> Mux
+        ensures { result ≡ self.now }
+    {
+        Mux {
+            select: self.select,
+            delay: self.delay,
+            line: self.line,
         }
     }
 
@@ -75,11 +86,27 @@ impl Mux {
         value_at(self.line, self.delay, selected)
     }
 
+    /// What it selected at the tick before, and false where there was none.
+    pub fn latest(&self) -> bool
+        ensures { result ≡ latest self.now }
+    {
+        value_at(self.line, 1, false)
+    }
+
     /// So many ticks pass at each of which this value is selected.
     pub fn shift(&mut self, selected: bool, ticks: u64)
         ensures { self.new ≡ shifted self.old selected ticks }
     {
         self.line = line_later(self.line, selected, ticks);
+    }
+
+    /// After how many ticks the block sees something else than now for the first time, where this value is
+    /// selected now and at each of them: 1 to 31. None where it goes on to see the same.
+    pub fn next_change(&self, selected: bool) -> Option<u32>
+        ensures next { IsNextChange self.now selected result }
+        ensures few { IfSome result (λ n. n ≤ 31) }
+    {
+        line_change(self.line, self.delay, selected)
     }
 
     /// One tick passes at which this value is selected. What the block sees at it.
@@ -118,4 +145,20 @@ fn line_next(line: u32, selected: bool) -> u32
 {
     let line = 2 * u64::from(line) + u64::from(selected);
     (line & 0xffff_ffff) as u32
+}
+
+/// After how many ticks another value stands at this delay for the first time, where this value is selected now
+/// and at each of them. None where the same goes on to stand there.
+fn line_change(line: u32, delay: u8, selected: bool) -> Option<u32>
+    requires { delay ≤ 31 }
+    ensures next { IsNextChange (record { select = 0; delay = delay; line = digits 31 line }) selected result }
+    ensures few { IfSome result (λ n. n ≤ 31) }
+{
+    let seen = value_at(line, delay, selected);
+    for passed in 0..delay {
+        if value_at(line, delay - passed - 1, selected) != seen {
+            return Some(u32::from(passed) + 1);
+        }
+    }
+    None
 }

@@ -7,7 +7,8 @@ use Rattle.pb_pcap.specs.declared.Field.{Field}
 use Rattle.pb_config.specs.Settings.{Settings}
 use Rattle.pb_config.specs.Capturing.{position_output, own_output, capture_of, captured_position, captured_own, layout_of, capture_slots, cleared}
 use Rattle.pb_config.specs.Numbers.{all_noted}
-use Rattle.pb_config.specs.KeptConfig.{KeptConfig, with_raw, with_clearing}
+use Rattle.pb_config.specs.KeptConfig.{KeptConfig, with_clearing}
+use Rattle.pb_config.specs.KeptParts.{with_raw}
 
 -- With the fields still to come these are all.
 

@@ -1,10 +1,10 @@
 -- What a Config keeps: the settings, and the numbers of the assignments.
-use Rattle.std.specs.Prelude.{ℕ, List, slice_set, Option, Result, Ok, Err}
+use Rattle.std.specs.Prelude.{ℕ, List, Result, Ok, Err}
 use Rattle.pb_words.specs.declared.Refusal.{Refusal}
 use Rattle.pb_fields.specs.declared.Slot.{Slot}
-use Rattle.pb_config.specs.Settings.{Settings, place, instance_place}
+use Rattle.pb_config.specs.Settings.{Settings}
 use Rattle.pb_config.specs.Defaults.{fresh}
-use Rattle.pb_config.specs.Assigning.{raw_given, target, with_text, after_assignment}
+use Rattle.pb_config.specs.Assigning.{raw_given, target, after_assignment}
 use Rattle.pb_config.specs.Capturing.{capture_slots, without_captures}
 use Rattle.pb_config.specs.Numbers.{Numbers, no_numbers, noted, all_noted}
 
@@ -38,20 +38,4 @@ abbrev pub with_clearing : KeptConfig → KeptConfig
 with_clearing kept = record {
   settings = without_captures kept.settings;
   numbers = all_noted kept.numbers capture_slots;
-}
-
--- Words of private helpers.
-
--- after this raw value was assigned to the slot
-abbrev pub with_raw : KeptConfig → Slot → ℕ → KeptConfig
-with_raw kept slot raw = record {
-  settings = record { raws = slice_set kept.settings.raws (place slot) raw; texts = kept.settings.texts };
-  numbers = noted kept.numbers slot;
-}
-
--- with the text that an assignment to the slot keeps, if any
-abbrev pub with_kept : KeptConfig → Slot → Option (List ℕ) → KeptConfig
-with_kept kept slot text = record {
-  settings = record { raws = kept.settings.raws; texts = with_text kept.settings.texts (instance_place slot) text };
-  numbers = kept.numbers;
 }

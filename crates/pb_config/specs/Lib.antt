@@ -7,3 +7,4 @@ pub mod Kept
 pub mod Reached
 pub mod Numbers
 pub mod KeptConfig
+pub mod KeptParts

@@ -1,14 +1,14 @@
 ghost use Rattle.std.specs.Prelude.{true, false, List, ◌≡◌, ◌<◌, ◌≤◌, ◌++◌, length, drop, IfOk, IfErr, OnOk, OnErr, IfSome};
-ghost use Rattle.pb_fields.specs.Slots.{IsSlot, type_at, attribute_at};
+ghost use Rattle.pb_fields.specs.Slots.{IsSlot, type_at, attribute_at, role_at};
 ghost use Rattle.pb_fields.specs.Values.{IsSpelledKind, IsShownKind};
 ghost use Rattle.pb_model.specs.declared.Block.{Block};
 ghost use Rattle.pb_model.specs.Changes.{IsChange};
-ghost use Rattle.pb_fields.specs.Slots.{role_at};
 ghost use Rattle.pb_config.specs.Settings.{raw_of, text_of, kind_now};
 ghost use Rattle.pb_config.specs.Defaults.{first_raws, first_texts};
 ghost use Rattle.pb_config.specs.Assigning.{told, raw_given, is_assignable, is_units, target, kept_by};
 ghost use Rattle.pb_config.specs.Numbers.{number_of};
-ghost use Rattle.pb_config.specs.KeptConfig.{KeptConfig, fresh_config, with_assignment, with_note, with_raw, with_kept};
+ghost use Rattle.pb_config.specs.KeptConfig.{KeptConfig, fresh_config, with_assignment, with_note};
+ghost use Rattle.pb_config.specs.KeptParts.{with_raw, with_kept};
 ghost use Rattle.pb_config.specs.Kept.{IsKept, CanBe, is_kept};
 ghost use Rattle.pb_config.specs.Showing.{is_line, is_readable, shown_at, is_scaled, scaled_shown};
 

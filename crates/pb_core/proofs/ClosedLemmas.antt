@@ -12,7 +12,7 @@ use Rattle.pb_acquire.specs.Taking.{reader_of, taken_by, take_of, piece_of}
 use Rattle.pb_core.specs.declared.events.Answer.{Answer}
 use Rattle.pb_core.specs.declared.events.Answer.TheVariants as answers
 use Rattle.pb_core.specs.declared.events.Event.TheVariants as events
-use Rattle.pb_core.specs.Sessions.{open_of, is_open, told_if_open, piece_answer, taken_answer}
+use Rattle.pb_core.specs.Sessions.{open_of, is_open, told_if_open, piece_answer}
 use Rattle.pb_core.specs.Telling.{reports_to}
 use Rattle.pb_core.specs.Queries.{query_reply}
 use Rattle.pb_core.specs.Assignments.{assignment}

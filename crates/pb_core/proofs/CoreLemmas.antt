@@ -1,5 +1,5 @@
 -- One tick, the ticks that are left, and what commands leave.
-use Rattle.std.proofs.Common.{◌≡◌, ℕ, ℤ, zero, suc, ◌+◌, ◌-◌, ◌<◌, ◌≤◌, max, Bool, true, false, List, take, Option, Some, None, Result, Ok, Err, IfOk, IfSome, sym, ap, subst, inr, refl, ◌∙◌, arith}
+use Rattle.std.proofs.Common.{◌≡◌, ℕ, ℤ, zero, suc, ◌+◌, ◌-◌, ◌<◌, ◌≤◌, max, Bool, true, false, List, take, ◌∷◌, Option, Some, None, Result, Ok, Err, IfOk, IfSome, sym, ap, subst, inr, refl, ◌∙◌, arith}
 use Rattle.std.specs.Prelude.{if◌then◌else◌}
 use Rattle.pb_words.specs.declared.Refusal.{Refusal}
 use Rattle.pb_words.specs.declared.Refusal.TheVariants as refusals
@@ -22,7 +22,9 @@ use Rattle.pb_model.specs.Kept.{Kept, stands_of}
 use Rattle.pb_model.specs.Kept as boxes
 use Rattle.pb_model.proofs.AgreeLemmas.{change_agrees, table_agrees}
 use Rattle.pb_config.specs.Settings.{Settings}
-use Rattle.pb_config.specs.Assigning.{raw_given, target, target_by, assigned, change_of}
+use Rattle.pb_config.specs.Assigning.{raw_given, target, target_by, assigned, after_by, change_of}
+use Rattle.pb_config.specs.KeptConfig.{numbers_by}
+use Rattle.pb_config.specs.Numbers.{AgreesWithAssigned}
 use Rattle.pb_config.proofs.NumberLemmas.{one_more_agrees, cleared_agree}
 use Rattle.pb_changes.specs.declared.Group.{Group}
 use Rattle.pb_core.specs.Tick.{stimulated, tick, taken}
@@ -178,23 +180,27 @@ target_by_there (Some _) slot s = s
 
 -- a value that was given
 
-given_agrees : (kept : KeptCore) (core : CoreState) (new : Given) → IsSlot new.slot → Agrees kept core → Agrees (kept_with_given kept new) (with_given core new)
-given_agrees kept core new s h =
+given_agrees : (kept : KeptCore) (core : CoreState) (new : Given) → raw_given kept.config.settings new.slot new.text ≡ Ok new.raw → IsSlot new.slot →
+    Agrees kept core → Agrees (kept_with_given kept new) (with_given core new)
+given_agrees kept core new e s h =
     record {
       rows = h.rows;
-      settings = ap (λ (x : Settings). assigned x new.slot new.text new.raw) h.settings;
+      settings =
+          ap (after_by kept.config.settings new.slot new.text) e ∙ ap (λ (x : Settings). assigned x new.slot new.text new.raw) h.settings;
       assigned =
-          one_more_agrees kept.config.numbers core.assigned (target new.slot) h.assigned
-          (target_by_there (attribute_at new.slot) new.slot s);
+          subst (λ numbers. AgreesWithAssigned numbers (target new.slot ∷ core.assigned)) (sym (ap (numbers_by kept.config.numbers new.slot) e))
+          (one_more_agrees kept.config.numbers core.assigned (target new.slot) h.assigned
+          (target_by_there (attribute_at new.slot) new.slot s));
       box = changed_agrees (change_of new.slot new.raw) kept.box core.box h.box;
       sessions = h.sessions;
       acquisitions = h.acquisitions;
     }
 
-given_by : (kept : KeptCore) (core : CoreState) (id : ℕ) (slot : Slot) (text : List ℕ) (r : Result ℕ Refusal) → IsSlot slot → Agrees kept core →
+given_by : (kept : KeptCore) (core : CoreState) (id : ℕ) (slot : Slot) (text : List ℕ) (r : Result ℕ Refusal) →
+    raw_given kept.config.settings slot text ≡ r → IsSlot slot → Agrees kept core →
     Agrees (kept_given_by kept (result_map (given slot text) r)) (left_by core id (result_map gives (result_map (given slot text) r)))
-given_by kept core id slot text (Ok raw) s h = given_agrees kept core (given slot text raw) s h
-given_by kept core id slot text (Err refusal) s h = h
+given_by kept core id slot text (Ok raw) e s h = given_agrees kept core (given slot text raw) e s h
+given_by kept core id slot text (Err refusal) e s h = h
 
 pub set_agrees : (kept next : KeptCore) (core : CoreState) (id : ℕ) (slot : Slot) (text : List ℕ) → IsSlot slot →
     next ≡ kept_given_by kept (slot_given kept.config.settings text slot) → Agrees kept core →
@@ -202,7 +208,7 @@ pub set_agrees : (kept next : KeptCore) (core : CoreState) (id : ℕ) (slot : Sl
 set_agrees kept next core id slot text s e h =
     subst (λ (x : Settings). Agrees next (left_by core id (result_map gives (slot_given x text slot)))) h.settings
     (subst (λ k. Agrees k (left_by core id (result_map gives (slot_given kept.config.settings text slot)))) (sym e)
-    (given_by kept core id slot text (raw_given kept.config.settings slot text) s h))
+    (given_by kept core id slot text (raw_given kept.config.settings slot text) refl s h))
 
 -- a command of capture
 

@@ -1,12 +1,11 @@
 -- What a refused command leaves, and one that is answered by a reply.
-use Rattle.std.proofs.Common.{◌≡◌, ◌≢◌, ℕ, suc, ◌==◌, Bool, true, false, List, [], ◌∷◌, length, codes, Option, Result, Ok, Err, refl, sym, ap, subst, inl, inr, ◌⊎◌, ◌∙◌, arith, ne_eqb}
+use Rattle.std.proofs.Common.{◌≡◌, ◌≢◌, ℕ, suc, ◌==◌, Bool, true, false, List, [], ◌∷◌, length, codes, Option, Result, Ok, Err, refl, ap, inl, inr, ◌⊎◌, arith, ne_eqb}
 use Rattle.std.specs.Prelude.{if◌then◌else◌}
 use Rattle.pb_words.specs.declared.Refusal.{Refusal}
 use Rattle.pb_words.specs.declared.Refusal.TheVariants as refusals
 use Rattle.pb_words.specs.Refusing.{result_then, result_map}
 use Rattle.pb_grammar.specs.Grammar.{Said, Query, Assign, Table, Echo, Bad, command_of}
 use Rattle.pb_changes.specs.declared.Group.{Group}
-use Rattle.pb_changes.specs.Report.{Reported, after_report}
 use Rattle.pb_config.specs.Settings.{Settings}
 use Rattle.pb_encode.specs.declared.Options.{Options}
 use Rattle.pb_encode.specs.Choosing.{options_of}
@@ -20,13 +19,13 @@ use Rattle.pb_core.specs.declared.events.Event.TheVariants as events
 use Rattle.pb_core.specs.declared.targets.Named.{Named}
 use Rattle.pb_core.specs.declared.targets.Named.TheVariants as names
 use Rattle.pb_core.specs.Core.{CoreState, with_acquisitions}
-use Rattle.pb_core.specs.Naming.{named_by, is_same}
-use Rattle.pb_core.specs.Sessions.{open_of, is_open, is_reading, reported_to, told_if_open, opened_answer, opened_by, piece_answer}
+use Rattle.pb_core.specs.Naming.{named_by}
+use Rattle.pb_core.specs.Sessions.{open_of, is_open, is_reading, told_if_open, opened_answer, opened_by, piece_answer}
 use Rattle.pb_core.specs.Queries.{named_reply}
-use Rattle.pb_core.specs.Telling.{past_of, shows_of, reports_to, with_reported}
+use Rattle.pb_core.specs.Telling.{reports_to, after_telling}
 use Rattle.pb_core.specs.Assignments.{Deed, resets, reset_given, assignment}
 use Rattle.pb_core.specs.Writing.{Written, table_write}
-use Rattle.pb_core.specs.Answer.{replied, done, left_by, written_by, asked_of, line_answer, said_after, answer, after}
+use Rattle.pb_core.specs.Answer.{replied, done, left_by, written_by, asked_of, line_answer, said_after, answer, after, AsksForReport}
 use Rattle.pb_core.proofs.ClosedLemmas.{not_said, take_closed}
 use Rattle.pb_core.proofs.NamingLemmas.{is_same-false}
 
@@ -106,24 +105,24 @@ event_closed core (events.Take id) e =
 event_closed core (events.CloseData id) e = absurd (cc)
 event_closed core (events.Advance to) e = absurd (cc)
 
--- A reply changes at most what was reported to its session.
+-- Of lines that are answered by a reply only those that ask for a report leave something.
 
-abbrev pub IsReported : CoreState → ℕ → CoreState → Type 0
-IsReported core id next = (next ≡ core) ⊎ ((reported : Reported) × (next ≡ with_reported core id reported))
+abbrev pub IsReported : CoreState → ℕ → Said → CoreState → Type 0
+IsReported core id said next = (next ≡ core) ⊎ ((group : Option Group) × AsksForReport said group × (next ≡ after_telling core id group))
 
-query_replied : (core : CoreState) (id : ℕ) (r : Result Named Refusal) → IsReported core id (asked_of core id r)
-query_replied core id (Ok (names.Changes group)) =
-    inr (after_report (reported_to core.sessions id) (past_of core) (shows_of core) group, refl)
-query_replied core id (Err other) = inl refl
-query_replied core id (Ok named) = inl refl
+query_replied : (core : CoreState) (id : ℕ) (target : List ℕ) (r : Result Named Refusal) → named_by target ≡ r →
+    IsReported core id (Query target) (asked_of core id r)
+query_replied core id target (Ok (names.Changes group)) e = inr (group, (target, refl, e), refl)
+query_replied core id target (Err other) e = inl refl
+query_replied core id target (Ok named) e = inl refl
 
 not_done : {X : Type 0} (r : Result X Refusal) (reply : List ℕ) → done r ≡ answers.Reply reply → ⊥
 not_done (Ok new) reply e = cc
 not_done (Err refusal) reply e = cc
 
 said_replied : (core : CoreState) (id : ℕ) (said : Said) (reply : List ℕ) → line_answer core id said ≡ answers.Reply reply →
-    IsReported core id (said_after core id said)
-said_replied core id (Query target) reply e = query_replied core id (named_by target)
+    IsReported core id said (said_after core id said)
+said_replied core id (Query target) reply e = query_replied core id target (named_by target) refl
 said_replied core id (Assign target value) reply e = absurd (not_done (assignment core.settings core.acquisitions target value) reply e)
 said_replied core id (Table target append base64 body) reply e =
     absurd (not_done (table_write core.box.stands target append base64 body) reply e)
@@ -132,7 +131,7 @@ said_replied core id (Bad refusal) reply e = inl refl
 
 pub line_replied : (is_there : Bool) (core : CoreState) (id : ℕ) (said : Said) (reply : List ℕ) →
     told_if_open is_there (line_answer core id said) ≡ answers.Reply reply →
-    IsReported core id (if is_there then said_after core id said else core)
+    IsReported core id said (if is_there then said_after core id said else core)
 line_replied true core id said reply e = said_replied core id said reply e
 line_replied false core id said reply e = inl refl
 

@@ -1,25 +1,23 @@
 -- What a report sees of what is kept: it agrees with the past of the core, and shows what the core shows.
-use Rattle.std.proofs.Common.{◌≡◌, ℕ, suc, ◌+◌, ◌-◌, ◌<◌, ◌==◌, ◌||◌, Bool, true, false, List, ◌∷◌, length, slice_index_or, Option, Some, None, refl, sym, ap, subst, ◌∙◌, arith}
+use Rattle.std.proofs.Common.{◌≡◌, ◌-◌, ◌==◌, ◌||◌, Bool, true, false, ◌∷◌, slice_index_or, Some, None, refl, ap, ◌∙◌, arith}
 use Rattle.std.specs.Prelude.{if◌then◌else◌}
 use Rattle.pb_names.specs.declared.TheConstants.{ITSELF}
 use Rattle.pb_fields.specs.declared.Slot.{Slot}
 use Rattle.pb_fields.specs.declared.Role.{Role}
 use Rattle.pb_fields.specs.declared.Role.TheVariants as roles
-use Rattle.pb_fields.specs.declared.FieldKind.{FieldKind}
 use Rattle.pb_fields.specs.declared.FieldKind.TheVariants as kinds
 use Rattle.pb_fields.specs.declared.FieldType.{FieldType}
 use Rattle.pb_fields.specs.declared.FieldType.TheVariants as types
 use Rattle.pb_fields.specs.declared.Attribute.{Attribute}
 use Rattle.pb_fields.specs.declared.Attribute.TheVariants as attributes
 use Rattle.pb_fields.specs.Types.{role_of}
-use Rattle.pb_fields.specs.Slots.{IsSlot, type_at, attributes_at, attribute_at, kind_by, kind_of, role_at}
+use Rattle.pb_fields.specs.Slots.{type_at, attributes_at, kind_by, kind_of, role_at}
 use Rattle.pb_buses.specs.Buses.{last_change}
 use Rattle.pb_buses.specs.declared.Bus.{Bus}
 use Rattle.pb_model.specs.Tick.{Standing}
 use Rattle.pb_model.specs.Kept.{stands_of}
 use Rattle.pb_config.specs.Settings.{Settings}
 use Rattle.pb_config.specs.Showing.{is_line, is_line_by, is_readable, is_readable_by, shown_at}
-use Rattle.pb_changes.specs.declared.Group.{Group}
 use Rattle.pb_changes.specs.declared.Group.TheVariants as groups
 use Rattle.pb_changes.specs.Groups.{is_in, is_settled, is_setting, is_own, is_bit_out, is_pos_out, is_read}
 use Rattle.pb_changes.specs.Past.{AgreesWithPast}

@@ -1,5 +1,5 @@
 -- What a query rests on: where the words of the bit bus stand, and what a block reports.
-use Rattle.std.proofs.Common.{◌≡◌, ℕ, ◌-◌, ◌<◌, ◌≤◌, ◌&&◌, ◌||◌, ◌==◌, Bool, true, false, List, length, slice_index_or, Option, Some, None, leb, refl, sym, subst}
+use Rattle.std.proofs.Common.{◌≡◌, ℕ, ◌-◌, ◌<◌, ◌≤◌, ◌&&◌, ◌||◌, ◌==◌, Bool, true, false, List, length, slice_index_or, Option, Some, None, leb, refl, sym, ap, subst, ◌∙◌}
 use Rattle.std.specs.Prelude.{if◌then◌else◌}
 use Rattle.pb_names.specs.declared.TheConstants.{ITSELF}
 use Rattle.pb_fields.specs.declared.Role.TheVariants as roles
@@ -46,14 +46,28 @@ word_within slot s e =
 
 -- what a block reports
 
-role_by : (b : Bool) (t : FieldType) (a : Attribute) → (if b then None else Some a) ≡ None → is_reported t ≡ true → (if b then role_of t else roles.Attr) ≡ roles.Read
-role_by true types.ReadUint a e r = refl
-role_by true (types.ReadEnum labels) a e r = refl
-role_by true _ a e r = absurd (cc)
-role_by false t a e r = cc
+role_by : (b : Bool) (t : FieldType) (a : Attribute) → (if b then None else Some a) ≡ None → (if b then role_of t else roles.Attr) ≡ role_of t
+role_by true t a e = refl
+role_by false t a e = absurd (cc)
+
+field_role : (slot : Slot) → attribute_at slot ≡ None → role_at slot ≡ role_of (type_at slot)
+field_role slot e = role_by (slot.attr == ITSELF) (type_at slot) (slice_index_or (attributes_at slot) (slot.attr - 1) attributes.Info) e
+
+role_read : (t : FieldType) → is_reported t ≡ true → role_of t ≡ roles.Read
+role_read types.ReadUint r = refl
+role_read (types.ReadEnum labels) r = refl
+role_read _ r = absurd (cc)
 
 pub reported_read : (slot : Slot) → attribute_at slot ≡ None → is_reported (type_at slot) ≡ true → role_at slot ≡ roles.Read
-reported_read slot e r = role_by (slot.attr == ITSELF) (type_at slot) (slice_index_or (attributes_at slot) (slot.attr - 1) attributes.Info) e r
+reported_read slot e r = field_role slot e ∙ role_read (type_at slot) r
+
+-- what outputs are
+
+pub level_role : (slot : Slot) → attribute_at slot ≡ None → type_at slot ≡ types.BitOut → role_at slot ≡ roles.BitOut
+level_role slot e t = field_role slot e ∙ ap role_of t
+
+pub position_role : (slot : Slot) → attribute_at slot ≡ None → type_at slot ≡ types.PosOut → role_at slot ≡ roles.PosOut
+position_role slot e t = field_role slot e ∙ ap role_of t
 
 shown_by : (t : FieldType) → is_reported t ≡ true → IsShownKind (field_kind t)
 shown_by types.ReadUint r = tt

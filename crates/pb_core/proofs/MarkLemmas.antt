@@ -1,12 +1,12 @@
 -- What the marks of the sessions keep.
-use Rattle.std.proofs.Common.{◌≡◌, ℕ, zero, suc, ◌-◌, ◌<◌, Bool, true, false, List, [], ◌∷◌, map, length, get_or, set, replicate, Option, Some, None, is_some, refl, sym, ap, subst, ◌∙◌}
+use Rattle.std.proofs.Common.{◌≡◌, ℕ, zero, suc, ◌-◌, List, [], ◌∷◌, get_or, set, replicate, Option, Some, None, is_some, refl, sym, ap, subst, ◌∙◌}
 use Rattle.std.specs.Option.{unwrap_or}
 use Rattle.pb_changes.specs.declared.Marks.{Marks}
 use Rattle.pb_changes.specs.Report.{Reported, opening}
 use Rattle.pb_changes.specs.Kept.{Keeps}
 use Rattle.pb_core.specs.Kept.{KeptCore, IsKept, AreKept, Agrees}
 use Rattle.pb_core.specs.Core.{CoreState}
-use Rattle.pb_core.specs.Sessions.{open_of, is_listed, is_open, with_session, reported_to}
+use Rattle.pb_core.specs.Sessions.{open_of, is_listed, is_open, with_session}
 use Rattle.pb_core.specs.Telling.{with_reported}
 
 -- none is open

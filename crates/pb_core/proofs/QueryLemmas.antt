@@ -1,5 +1,5 @@
 -- What a query is answered and leaves, by what its target names.
-use Rattle.std.proofs.Common.{◌≡◌, ℕ, Bool, true, false, List, Option, Result, Ok, Err, refl, sym, ap, subst, ◌∙◌}
+use Rattle.std.proofs.Common.{◌≡◌, ℕ, false, List, Option, Ok, Err, refl, sym, ap, subst, ◌∙◌}
 use Rattle.pb_words.specs.declared.Refusal.{Refusal}
 use Rattle.pb_words.specs.Refusing.{result_then}
 use Rattle.pb_grammar.specs.Grammar.{Query}

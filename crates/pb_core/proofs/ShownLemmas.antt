@@ -1,11 +1,9 @@
 -- What a report shows of a slot is what its query is answered.
-use Rattle.std.proofs.Common.{◌≡◌, ℕ, ◌-◌, ◌==◌, ◌||◌, Bool, true, false, List, slice_index_or, Option, Some, None, Result, Ok, Err, refl, sym, ap, ◌∙◌}
+use Rattle.std.proofs.Common.{◌≡◌, ℕ, ◌-◌, ◌==◌, ◌||◌, Bool, true, false, List, slice_index_or, Some, None, Ok, Err, refl, ap, ◌∙◌}
 use Rattle.std.specs.Prelude.{if◌then◌else◌}
-use Rattle.pb_words.specs.declared.Refusal.{Refusal}
 use Rattle.pb_words.specs.declared.Refusal.TheVariants as refusals
 use Rattle.pb_names.specs.declared.TheConstants.{ITSELF}
 use Rattle.pb_fields.specs.declared.Slot.{Slot}
-use Rattle.pb_fields.specs.declared.Role.{Role}
 use Rattle.pb_fields.specs.declared.Role.TheVariants as roles
 use Rattle.pb_fields.specs.declared.FieldType.{FieldType}
 use Rattle.pb_fields.specs.declared.FieldType.TheVariants as types

@@ -10,7 +10,7 @@ use Rattle.pb_core.specs.declared.events.Answer.{Answer}
 use Rattle.pb_core.specs.declared.events.Answer.TheVariants as answers
 use Rattle.pb_model.specs.Tick.{Standing}
 use Rattle.pb_config.specs.Settings.{Settings}
-pub use Rattle.pb_core.specs.Core.{CoreState, opening, with_box, with_sessions, with_acquisitions, ticks_of_core}
+pub use Rattle.pb_core.specs.Core.{CoreState, opening, with_sessions, with_acquisitions, ticks_of_core}
 use Rattle.pb_changes.specs.declared.Group.{Group}
 use Rattle.pb_changes.specs.Report as changes
 use Rattle.pb_core.specs.Sessions.{IsSession, is_open, open_of, with_session, told_if_open, opened_answer, opened_by, taken_answer}
@@ -49,6 +49,10 @@ left_by core id (Err refusal) = core
 abbrev pub written_by : CoreState → Result Written Refusal → CoreState
 written_by core (Ok new) = with_written core new
 written_by core (Err refusal) = core
+
+-- the command is the query of a change report: of a group, or of all
+abbrev pub AsksForReport : Said → Option Group → Type 0
+AsksForReport said group = (target : List ℕ) × (said ≡ Query target) × (named_by target ≡ Ok (names.Changes group))
 
 -- the core after the query of what is named: what was reported counts as told
 abbrev pub asked_of : CoreState → ℕ → Result Named Refusal → CoreState

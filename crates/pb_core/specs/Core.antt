@@ -35,10 +35,6 @@ opening rows =
       acquisitions = acquire.opening;
     }
 
--- the core with another box
-abbrev pub with_box : CoreState → Box → CoreState
-with_box core box = record core { box = box }
-
 -- the core with other control sessions
 abbrev pub with_sessions : CoreState → List (Option Reported) → CoreState
 with_sessions core sessions = record core { sessions = sessions }

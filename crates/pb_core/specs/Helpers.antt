@@ -1,5 +1,5 @@
 -- Words of private helpers: no public clause cites them.
-use Rattle.std.specs.Prelude.{◌≡◌, ℕ, ◌<◌, Bool, true, false, List, Option, Some, None, Result, Ok, Err}
+use Rattle.std.specs.Prelude.{◌≡◌, ◌<◌, Bool, true, false, Option, Some, None, Result, Ok, Err}
 use Rattle.pb_words.specs.declared.Refusal.{Refusal}
 use Rattle.pb_names.specs.declared.TheConstants.{BLOCKS}
 use Rattle.pb_fields.specs.declared.FieldType.{FieldType}
@@ -10,9 +10,9 @@ use Rattle.pb_model.specs.declared.Change.{Change}
 use Rattle.pb_model.specs.Kept.{Kept, stands_of}
 use Rattle.pb_model.specs.Tables.{with_table}
 use Rattle.pb_model.specs.Settings.{changed}
-use Rattle.pb_config.specs.Assigning.{target, assigned, change_of}
-use Rattle.pb_config.specs.Numbers.{noted, number_of}
-use Rattle.pb_config.specs.KeptConfig.{KeptConfig, with_clearing, with_note}
+use Rattle.pb_config.specs.Assigning.{change_of}
+use Rattle.pb_config.specs.Numbers.{number_of}
+use Rattle.pb_config.specs.KeptConfig.{KeptConfig, with_assignment, with_clearing, with_note}
 use Rattle.pb_changes.specs.Past.{Told}
 use Rattle.pb_core.specs.declared.targets.Named.{Named}
 use Rattle.pb_core.specs.declared.targets.Named.TheVariants as names
@@ -60,17 +60,10 @@ abbrev pub kept_changed_by : Option Change → Kept → Kept
 kept_changed_by None kept = kept
 kept_changed_by (Some change) kept = changed kept change
 
--- what is kept of settings where this is given
-abbrev pub config_with_given : KeptConfig → Given → KeptConfig
-config_with_given config new = record {
-  settings = assigned config.settings new.slot new.text new.raw;
-  numbers = noted config.numbers (target new.slot);
-}
-
 -- what is kept of a core where this is given
 abbrev pub kept_with_given : KeptCore → Given → KeptCore
 kept_with_given core new = record core {
-  config = config_with_given core.config new;
+  config = with_assignment core.config new.slot new.text;
   box = kept_changed_by (change_of new.slot new.raw) core.box;
 }
 

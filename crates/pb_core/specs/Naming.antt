@@ -1,5 +1,5 @@
 -- What a target names: what is asked with a star, all fields of a block, all attributes of a field, or a slot.
-use Rattle.std.specs.Prelude.{ℕ, nat_eq, Bool, List, [], ◌∷◌, Option, Some, None, Result, Ok, Err, codes, is_some, position, if◌then◌else◌}
+use Rattle.std.specs.Prelude.{ℕ, nat_eq, Bool, List, [], ◌∷◌, Some, None, Result, Ok, Err, codes, is_some, position, if◌then◌else◌}
 use Rattle.std.specs.Cmp.Lexicographic.{pointwise}
 use Rattle.std.specs.Option.{option_map_or}
 use Rattle.pb_words.specs.declared.Refusal.{Refusal}

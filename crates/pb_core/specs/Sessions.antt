@@ -1,5 +1,5 @@
 -- Control sessions 1 to 8, with what was last reported to each. Data sessions 1 to 8 are the readers of acquisitions.
-use Rattle.std.specs.Prelude.{ℕ, ◌-◌, ◌≤◌, Bool, false, List, map, replicate, slice_index_or, slice_set, Option, Some, None, is_some, Result, Ok, Err, if◌then◌else◌}
+use Rattle.std.specs.Prelude.{ℕ, ◌-◌, ◌≤◌, Bool, false, List, map, replicate, slice_index_or, slice_set, Option, None, is_some, Result, Ok, Err, if◌then◌else◌}
 use Rattle.std.specs.Option.{unwrap_or}
 use Rattle.std.specs.List.{range_with_len}
 use Rattle.pb_words.specs.declared.Refusal.{Refusal}

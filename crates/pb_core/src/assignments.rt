@@ -14,6 +14,7 @@ use pb_words::{OutOfMemory, Refusal};
 
 /// The answer to an assignment of a session that is open. A refused one changes nothing. To arm an acquisition may lack
 /// memory, which changes nothing either.
+#[inline(never)]
 pub(crate) fn assign(
     core: &mut Core,
     id: u32,

@@ -1,5 +1,4 @@
-ghost use Rattle.std.specs.Prelude.{◌≡◌, ◌<◌, ◌≤◌, ◌^◌, IfOk, IfErr};
-ghost use Rattle.pb_buses.specs.Buses.{selected, position};
+ghost use Rattle.std.specs.Prelude.{◌≡◌, ◌<◌, ◌≤◌, ◌^◌, [], IfOk, IfErr};
 ghost use Rattle.pb_fields.specs.Slots.{role_at, kind_of};
 ghost use Rattle.pb_fields.specs.Values.{IsRaw};
 
@@ -8,6 +7,7 @@ mod applying;
 mod setting;
 mod telling;
 
+use crate::events::Answer;
 use crate::placing::{put_rows, put_values};
 use crate::sessions::Sessions;
 use pb_acquire::Acquisitions;
@@ -16,8 +16,10 @@ use pb_fields::{Catalog, Role, Slot};
 use pb_model::BoxState;
 use pb_stim::Stimulus;
 use pb_tables::Rows;
+use pb_words::Text;
 use std::alloc::Global;
 use std::marker::Model;
+use std::mem;
 
 /// The box with its settings, its stimulus and its sessions, which events drive. A clause sees the rows, the settings with
 /// the numbers of the last assignments, what was last reported to the control sessions that are open, and what is kept of
@@ -35,6 +37,8 @@ pub struct Core {
     state: BoxState,
     sessions: Sessions,
     acquisitions: Acquisitions,
+    /// The memory of the last reply that was given back.
+    spare: Text,
 }
 
 impl Model for Core {
@@ -90,6 +94,7 @@ impl Core {
             state,
             sessions: Sessions::new(),
             acquisitions,
+            spare: Text::new(alloc),
         })
     }
 
@@ -119,6 +124,25 @@ impl Core {
         self.acquisitions.is_open(id)
     }
 
+    /// Takes back an answer of which nothing is wanted any more: the next reply of one value stands in its memory.
+    pub fn give_back(&mut self, answer: Answer)
+        ensures { self.new ≡ self.old }
+    {
+        if let Answer::Reply(text) = answer {
+            self.spare = text;
+        }
+    }
+
+    /// A text without bytes, in the memory that was given back.
+    pub(crate) fn empty_text(&mut self) -> Text
+        ensures empty { result ≡ [] }
+        ensures same { self.new ≡ self.old }
+    {
+        let mut text = mem::replace(&mut self.spare, Text::new(self.alloc));
+        text.clear();
+        text
+    }
+
     pub(crate) fn sessions(&self) -> &Sessions
         ensures { result.now ≡ self.now.sessions }
     {
@@ -140,18 +164,10 @@ impl Core {
         self.state.table(instance)
     }
 
-    /// The level at this entry of the bit bus.
-    pub(crate) fn level(&self, entry: u8) -> bool
-        ensures { result ≡ selected self.now.box.buses.bus entry }
+    pub(crate) fn state(&self) -> &BoxState
+        ensures { result.now ≡ self.now.box }
     {
-        self.state.buses().selected(entry)
-    }
-
-    /// The value at this entry of the position bus.
-    pub(crate) fn position(&self, entry: u8) -> i32
-        ensures { result ≡ position self.now.box.buses.bus entry }
-    {
-        self.state.buses().selected_position(entry)
+        &self.state
     }
 
     /// The number that a block reports, or that of the label that it reports.

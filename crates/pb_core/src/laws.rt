@@ -8,6 +8,7 @@ ghost use Rattle.pb_acquire.specs.declared.readers.Taken.TheVariants as takes;
 ghost use Rattle.pb_acquire.specs.Acquisitions.{AllAcquisitions};
 ghost use Rattle.pb_acquire.specs.Taking.{reader_of, take_of};
 ghost use Rattle.pb_config.specs.Settings.{Settings};
+ghost use Rattle.pb_grammar.specs.Grammar.{command_of};
 ghost use Rattle.pb_config.specs.Assigning.{raw_given};
 ghost use Rattle.pb_config.specs.Reached.{IsReached};
 ghost use Rattle.pb_config.specs.Showing.{is_readable};
@@ -29,21 +30,21 @@ ghost use Rattle.pb_changes.specs.declared.Group.TheVariants as groups;
 ghost use Rattle.pb_changes.specs.Groups.{is_in, is_settled};
 ghost use Rattle.pb_core.specs.Assignments.{assignment, takes_value};
 ghost use Rattle.pb_core.specs.Writing.{is_table, takes_body, table_write};
-ghost use Rattle.pb_core.specs.Telling.{shown_now, with_reported};
+ghost use Rattle.pb_core.specs.Telling.{shown_now, after_telling};
 ghost use Rattle.pb_changes.specs.declared.Group.{Group};
-ghost use Rattle.pb_changes.specs.Report.{Reported};
 ghost use Rattle.pb_tables.specs.Computed.{written};
 ghost use Rattle.pb_model.specs.Tables.{table_of};
-ghost use Rattle.pb_core.specs.Answer.{answer, after, after_all};
+ghost use Rattle.pb_core.specs.Answer.{answer, after, after_all, AsksForReport};
 
 /// An event that is refused leaves the core as it was, and so does one of a session that isn't open. A line that is
-/// answered by a reply changes at most what was reported to its session.
+/// answered by a reply does so too, unless it asks for a change report: then the core is as after that report.
 pub fn only_done_lines_change_the_core()
     ensures refused { (core : CoreState) (event : Event) (refusal : Refusal) → answer core event ≡ answers.Error refusal → after core event ≡ core }
     ensures closed { (core : CoreState) (event : Event) → answer core event ≡ answers.Closed → after core event ≡ core }
     ensures replied { (core : CoreState) (id : ℕ) (bytes reply : List ℕ)
         → answer core (events.Line id bytes) ≡ answers.Reply reply
-        → (after core (events.Line id bytes) ≡ core) ⊎ ((reported : Reported) × (after core (events.Line id bytes) ≡ with_reported core id reported)) }
+        → (after core (events.Line id bytes) ≡ core)
+        ⊎ ((group : Option Group) × AsksForReport (command_of bytes) group × (after core (events.Line id bytes) ≡ after_telling core id group)) }
 {}
 
 /// First it counts whether the target names something, be it with a star, a listing or a slot; then

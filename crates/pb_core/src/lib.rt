@@ -17,6 +17,7 @@ mod queries;
 mod reading;
 mod recording;
 mod sessions;
+mod showing;
 mod targets;
 mod values;
 mod who;

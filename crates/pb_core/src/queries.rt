@@ -1,4 +1,4 @@
-ghost use Rattle.std.specs.Prelude.{◌≡◌, ℕ, false, List, Option, IfOk, OnOk, OnErr};
+ghost use Rattle.std.specs.Prelude.{◌≡◌, ℕ, false, List, [], Option, IfOk, OnOk, OnErr};
 ghost use Rattle.pb_fields.specs.Slots.{IsSlot};
 ghost use Rattle.pb_model.specs.Kept.{stands_of};
 ghost use Rattle.pb_acquire.specs.Acquisitions.{AllAcquisitions};
@@ -25,7 +25,7 @@ use pb_replies::{
     attributes_reply, blocks_reply, fields_reply, has_labels, labels_reply, positions_reply,
     value_reply,
 };
-use pb_words::{OutOfMemory, Refusal};
+use pb_words::{OutOfMemory, Refusal, Text};
 
 /// The answer to the query of a target by a session that is open. A report counts as told; else nothing changes.
 pub(crate) fn query(core: &mut Core, id: u32, target: &[u8]) -> Result<Answer, OutOfMemory>
@@ -39,15 +39,30 @@ pub(crate) fn query(core: &mut Core, id: u32, target: &[u8]) -> Result<Answer, O
 {
     match named_by(core.catalog(), target) {
         Ok(Named::Changes(group)) => core.report(id, group),
-        Ok(named) => named_answer(core, named),
+        Ok(named) => asked(core, named),
         Err(refusal) => Ok(Answer::Error(refusal)),
     }
 }
 
-/// The answer to the query of what is named. A report is none of these.
-fn named_answer(core: &Core, named: Named) -> Result<Answer, OutOfMemory>
+/// The answer to the query of what is named, in the memory of a reply that was given back. A report is none of these.
+fn asked(core: &mut Core, named: Named) -> Result<Answer, OutOfMemory>
     requires there { IsThere named }
     requires other { is_report named ≡ false }
+    ensures ok { (all : AllAcquisitions) (reports : Option Group → List ℕ) → acquire.Agrees core.old.acquisitions all →
+        IfOk result (λ told. told ≡ replied (named_reply core.old.config.settings (stands_of core.old.box) (open_of core.old.sessions) all reports named)) }
+    ensures memory { (all : AllAcquisitions) (reports : Option Group → List ℕ) → acquire.Agrees core.old.acquisitions all →
+        OnErr result (IsReply (replied (named_reply core.old.config.settings (stands_of core.old.box) (open_of core.old.sessions) all reports named))) }
+    ensures same { core.new ≡ core.old }
+{
+    let text = core.empty_text();
+    named_answer(core, named, text)
+}
+
+/// The answer to the query of what is named. A reply of one value stands in this text, which has nothing yet.
+fn named_answer(core: &Core, named: Named, text: Text) -> Result<Answer, OutOfMemory>
+    requires there { IsThere named }
+    requires other { is_report named ≡ false }
+    requires empty { text ≡ [] }
     ensures ok { (all : AllAcquisitions) (reports : Option Group → List ℕ) → acquire.Agrees core.now.acquisitions all →
         IfOk result (λ told. told ≡ replied (named_reply core.now.config.settings (stands_of core.now.box) (open_of core.now.sessions) all reports named)) }
     ensures memory { (all : AllAcquisitions) (reports : Option Group → List ℕ) → acquire.Agrees core.now.acquisitions all →
@@ -74,7 +89,7 @@ fn named_answer(core: &Core, named: Named) -> Result<Answer, OutOfMemory>
         Named::Labels(slot) => labels_answer(core, slot),
         Named::Fields(block) => Ok(Answer::Reply(fields_reply(core.alloc(), block)?)),
         Named::Attributes(slot) => Ok(Answer::Reply(attributes_reply(core.alloc(), slot)?)),
-        Named::Value(slot) => slot_answer(core, slot),
+        Named::Value(slot) => slot_answer(core, slot, text),
     }
 }
 

@@ -12,6 +12,7 @@ use pb_encode::Options;
 use pb_words::OutOfMemory;
 
 /// The answer to the opening of a data session with this options line. Where it is refused nothing changes.
+#[inline(never)]
 pub(crate) fn open_reader(acquisitions: &mut Acquisitions, id: u32, line: &[u8]) -> Answer
     requires { IsSession id }
     ensures answer { result ≡ opened_answer (options_of line.now) }
@@ -30,6 +31,7 @@ pub(crate) fn open_reader(acquisitions: &mut Acquisitions, id: u32, line: &[u8])
 }
 
 /// The answer to a data session that takes. Want of memory comes only in the place of a piece, and changes nothing.
+#[inline(never)]
 pub(crate) fn take_piece(acquisitions: &mut Acquisitions, id: u32) -> Result<Answer, OutOfMemory>
     requires { IsSession id }
     ensures answer { (all : AllAcquisitions) → acquire.Agrees acquisitions.old all → IfOk result (λ told. told ≡ taken_answer all id) }

@@ -41,6 +41,7 @@ impl Sessions {
     }
 
     /// The session opens: all is reported to it next.
+    #[inline(never)]
     pub(crate) fn open(&mut self, id: u32)
         requires { IsSession id }
         ensures { (sessions : List (Option Reported)) → AreKept self.old sessions → AreKept self.new (definition.with_session id (Some opening) sessions) }
@@ -67,6 +68,7 @@ impl Sessions {
         self.open[(id - 1) as usize] = Some(marks);
     }
 
+    #[inline(never)]
     pub(crate) fn close(&mut self, id: u32)
         requires { IsSession id }
         ensures { (sessions : List (Option Reported)) → AreKept self.old sessions → AreKept self.new (definition.with_session id None sessions) }

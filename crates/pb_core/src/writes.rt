@@ -14,6 +14,7 @@ use pb_fields::{FieldType, Slot, attribute, field_type};
 use pb_words::Refusal;
 
 /// The answer to a table write. A refused one changes nothing.
+#[inline(never)]
 pub(crate) fn write(
     core: &mut Core,
     target: &[u8],

@@ -1,11 +1,11 @@
-ghost use Rattle.std.specs.Prelude.{◌≡◌, ◌<◌, ◌≤◌, length, map, IfSome, IfOk, nat_eq, position};
+ghost use Rattle.std.specs.Prelude.{◌≡◌, ◌<◌, ◌≤◌, length, map, None, IfSome, IfOk, if◌then◌else◌, nat_eq, position};
 ghost use Rattle.std.specs.Option.{option_copied};
 ghost use Rattle.std.specs.List.{position_or_len, list_all};
 ghost use Rattle.std.specs.Cmp.Lexicographic.{pointwise};
 ghost use Rattle.std.proofs.Props.{props};
 ghost use Rattle.std.specs.Char.{is_ascii_digit};
 ghost use Rattle.pb_names.specs.declared.TheConstants.{BLOCKS};
-ghost use Rattle.pb_fields.specs.Finding.{is_point, before_point, after_point, block_with, block_named, instance_numbered, field_named, attribute_named, found_of, block_found, number_of, stem_of};
+ghost use Rattle.pb_fields.specs.Finding.{is_point, before_point, after_point, block_with, instance_numbered, field_named, attribute_named, found_of, block_found, number_of, stem_of};
 ghost use Rattle.pb_fields.specs.BlockNames.{block_places, place_named};
 ghost use Rattle.pb_fields.specs.Places.{count_of, fields_of, type_of};
 ghost use Rattle.pb_fields.specs.Slots.{IsSlot};
@@ -41,10 +41,11 @@ impl Catalog {
         ensures slot { IfOk result (λ slot. IsSlot slot) }
     {
         let (name, rest) = cut_at_point(target);
-        let Some(block) = self.block_named(name) else {
+        let (stem, number) = cut_at_number(name);
+        let Some(block) = self.block_numbered(stem, number) else {
             return Err(Refusal::NoSuchBlock);
         };
-        let Some(instance) = instance_numbered(block_at(block).1, number_of(name)) else {
+        let Some(instance) = instance_numbered(block_at(block).1, number) else {
             return Err(Refusal::BlockNumberOutOfRange);
         };
         let Some(text) = rest else {
@@ -70,10 +71,10 @@ impl Catalog {
         ensures found { result ≡ block_found name.now }
         ensures block { IfOk result (λ block. block < BLOCKS) }
     {
-        let Some(block) = self.block_named(name) else {
+        let (stem, number) = cut_at_number(name);
+        let Some(block) = self.block_numbered(stem, number) else {
             return Err(Refusal::NoSuchBlock);
         };
-        let number = number_of(name);
         if number.is_empty() {
             return Ok(block);
         }
@@ -83,13 +84,13 @@ impl Catalog {
         }
     }
 
-    /// The block that is named, with digits after it or with none.
-    fn block_named(&self, name: &[u8]) -> Option<u8>
-        ensures named { result ≡ block_named name.now }
+    /// The block with this name, where digits stand after it or nothing.
+    fn block_numbered(&self, stem: &[u8], number: &[u8]) -> Option<u8>
+        ensures named { result ≡ (if list_all is_ascii_digit number.now then block_with stem.now else None) }
         ensures block { IfSome result (λ block. block < BLOCKS) }
     {
-        if are_digits(number_of(name)) {
-            self.block_with(&name[..stem_len(name)])
+        if are_digits(number) {
+            self.block_with(stem)
         } else {
             None
         }
@@ -134,11 +135,12 @@ fn first_point(text: &[u8]) -> Option<usize>
     text.iter().position(|b| *b == b'.')
 }
 
-/// The number of a name, from its first digit on.
-fn number_of(name: &[u8]) -> &[u8]
-    ensures { result.now ≡ number_of name.now }
+/// What stands before the first digit of a name, and its number from there on.
+fn cut_at_number(name: &[u8]) -> (&[u8], &[u8])
+    ensures stem { result.0.now ≡ stem_of name.now }
+    ensures number { result.1.now ≡ number_of name.now }
 {
-    &name[stem_len(name)..]
+    name.split_at(stem_len(name))
 }
 
 /// The length of a name without its number.

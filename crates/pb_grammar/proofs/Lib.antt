@@ -12,3 +12,5 @@ pub mod ScanLemmas
 pub mod StreamLemmas
 pub mod StageLemmas
 pub mod WholeLemmas
+pub mod QueryLemmas
+pub mod LineLemmas

@@ -11,7 +11,7 @@ use Rattle.pb_grammar.proofs.TableLemmas.{command_table, no_table_in, table_no_l
 use Rattle.pb_grammar.proofs.Sayings.{Speaks, saying, saying_speaks, says_saying}
 
 -- what the text of a line says, by what it is
-sound_said : (text : List ℕ) → IsSound text → said_in text ≡ saying text
+pub sound_said : (text : List ℕ) → IsSound text → said_in text ≡ saying text
 unfolding said_in
 sound_said text sound =
     ap (λ t. cond t (Bad refusals.LineTooLong) (cond (not (list_all is_printable text)) (Bad refusals.NotPrintable) (saying text)))

@@ -87,7 +87,7 @@ position-after {X} p xs y ys h e =
 deciding_apart : (b : ℕ) → is_deciding b ≡ true → is_target_byte b ≡ false
 deciding_apart b h = grind (arith, nat_tests)
 
-none_decides : (text : List ℕ) → AreTargetBytes text → list_all (λ b. not (is_deciding b)) text ≡ true
+pub none_decides : (text : List ℕ) → AreTargetBytes text → list_all (λ b. not (is_deciding b)) text ≡ true
 none_decides [] h = refl
 none_decides (b ∷ bs) h =
     let parts = and_parts (is_target_byte b) (list_all is_target_byte bs) h in

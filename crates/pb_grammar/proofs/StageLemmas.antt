@@ -209,11 +209,11 @@ fault_known (Bad other) e = absurd (cc)
 
 -- One byte fed.
 
-record Opened (kept : Kept) (seen : List ℕ) : Type 0 where
+pub record Opened (kept : Kept) (seen : List ℕ) : Type 0 where
   pub stage : IsStage kept.stage seen
   pub bytes : kept.bytes ≡ take room seen
 
-begun_of : (kept : Kept) (stage : Stage) (seen : List ℕ) → kept.stage ≡ stage → (IsStage stage seen × (kept.bytes ≡ take room seen)) ⊎ (IsWholeStage stage × (seen ≡ [])) → Opened (begun_at stage kept) seen
+pub begun_of : (kept : Kept) (stage : Stage) (seen : List ℕ) → kept.stage ≡ stage → (IsStage stage seen × (kept.bytes ≡ take room seen)) ⊎ (IsWholeStage stage × (seen ≡ [])) → Opened (begun_at stage kept) seen
 begun_of kept stages.First seen e (inl h) = record { stage = subst (λ s. IsStage s seen) (sym e) h.0; bytes = h.1 }
 begun_of kept stages.First seen e (inr h) = absurd h.0
 begun_of kept (stages.Body unknown scan) seen e (inl h) = record { stage = subst (λ s. IsStage s seen) (sym e) h.0; bytes = h.1 }

@@ -243,3 +243,9 @@ target_written text h = star_written text (after_front (codes "*") text) (after_
 -- a text is a target where the test is true of it, and nowhere else
 pub target_iff : (text : List ℕ) → IsTargetText text ↔ (is_target text ≡ true)
 target_iff text = (λ w. (written_cuts text w.0 w.1).test, target_written text)
+
+-- two or three names with points between them are one
+pub plain_is_target : (text : List ℕ) → is_within 2 3 (names_in text) ≡ true → is_target text ≡ true
+plain_is_target text h =
+    let parts = parts_of 2 3 text (omega arith) h in
+    (target_iff text).0 (written text _ (joined text) (plain_shape (pieces text) parts.0 parts.1 parts.2))

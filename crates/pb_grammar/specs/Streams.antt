@@ -1,5 +1,5 @@
 -- Streams: which bytes are whole commands, one after the other.
-use Rattle.std.specs.Prelude.{◌≡◌, ℕ, ◌+◌, ◌==◌, ◌⊎◌, Bool, true, false, List, [], ◌∷◌, ◌++◌, length, take, drop, position, Option, Some, None}
+use Rattle.std.specs.Prelude.{◌≡◌, ℕ, ◌+◌, ◌==◌, ◌⊎◌, Bool, true, false, List, [], ◌∷◌, ◌++◌, length, take, drop, position, Option, Some, None, if◌then◌else◌}
 use Rattle.std.specs.Option.{option_map_or}
 use Rattle.pb_grammar.specs.Grammar.{IsLine, IsTable, Opening, Opens, opening_in, body_of, rows}
 
@@ -41,3 +41,13 @@ unfoldable pub is_whole : List ℕ → Bool
 is_whole bytes =
     option_map_or (λ place. is_whole_with (opening_in (take place bytes)) (drop (place + 1) bytes))
     (position (λ b. b == 10) bytes) false
+
+-- Lines.
+
+-- the bytes that were seen of a command with those of a line more: its text, and a newline
+abbrev pub with_line : List ℕ → List ℕ → List ℕ
+with_line seen line = (seen ++ line) ++ 10 ∷ []
+
+-- what waits of a command after a line: nothing, where that completes it
+abbrev pub left_waiting : List ℕ → List ℕ → List ℕ
+left_waiting seen line = if is_whole (with_line seen line) then [] else with_line seen line

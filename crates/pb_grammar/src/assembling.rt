@@ -1,4 +1,4 @@
-ghost use Rattle.std.specs.Prelude.{◌≡◌, ◌≤◌, ◌++◌, ◌∷◌, [], length, take};
+ghost use Rattle.std.specs.Prelude.{◌≡◌, ◌≤◌, ◌+◌, ◌++◌, ◌∷◌, [], length, take};
 
 use crate::scanning::{LONGEST, LONGEST_BODY};
 use crate::stages::{Stage, next_stage, stage_fault};
@@ -29,9 +29,9 @@ impl Model for Assembler {
 }
 
 impl Assembler {
-    ghost use Rattle.std.specs.Prelude.{◌≡◌, ◌++◌, ◌∷◌, [], List, ℕ, IsTrue, IfOk, MatchResult, ◌↔◌, take};
-    ghost use Rattle.pb_grammar.specs.Grammar.{command_of, Bad};
-    ghost use Rattle.pb_grammar.specs.Streams.{IsWhole};
+    ghost use Rattle.std.specs.Prelude.{◌≡◌, ◌≤◌, ◌+◌, ◌++◌, ◌∷◌, [], List, ℕ, IsTrue, IfOk, MatchResult, ◌↔◌, length, take};
+    ghost use Rattle.pb_grammar.specs.Grammar.{command_of, Bad, IsText};
+    ghost use Rattle.pb_grammar.specs.Streams.{IsWhole, is_whole, with_line, left_waiting};
     ghost use Rattle.pb_grammar.specs.Feeding.{Fed, Completed, HasWhole, IsKnown, begun_at, nothing, room};
 
     /// An assembler that was fed nothing. It takes all the memory that it needs.
@@ -62,6 +62,19 @@ impl Assembler {
         self.has_whole()
     }
 
+    /// Feeds the text of a line and its newline, each byte as `feed` takes it, and says whether the newline completes a
+    /// command. A first line is copied at once.
+    pub fn feed_line(&mut self, line: &[u8]) -> bool
+        requires { IsText line.now }
+        ensures whole { (seen : List ℕ) → Fed self.old seen → result ≡ is_whole (with_line seen line.now) }
+        ensures completed { (seen : List ℕ) → Fed self.old seen → IsTrue result → Completed self.new (with_line seen line.now) }
+        ensures fed { (seen : List ℕ) → Fed self.old seen → Fed self.new (left_waiting seen line.now) }
+        ensures ended { IsTrue result ↔ HasWhole self.new }
+    {
+        self.feed_text(line);
+        self.feed(b'\n')
+    }
+
     /// The bytes of the command that the last byte completed, its last newline included, or why it is refused:
     /// `LineTooLong`, `NotPrintable`, `MalformedCommand` or `TableTooLong`.
     pub fn whole(&self) -> Result<&[u8], Refusal>
@@ -81,6 +94,28 @@ impl Assembler {
     {
         self.used = 0;
         self.stage = Stage::First;
+    }
+
+    /// Feeds the text of a line: at once where it is kept whole and nothing is counted, else byte by byte.
+    fn feed_text(&mut self, text: &[u8])
+        requires { IsText text.now }
+        ensures { (seen : List ℕ) → Fed self.old seen → Fed self.new (seen ++ text.now) }
+    {
+        self.begin();
+        match self.stage {
+            Stage::First if text.len() < ROOM - self.used => self.keep_all(text),
+            _ => self.feed_each(text),
+        }
+    }
+
+    /// Feeds the text of a line byte by byte.
+    fn feed_each(&mut self, text: &[u8])
+        requires { IsText text.now }
+        ensures { (seen : List ℕ) → Fed self.old seen → Fed self.new (seen ++ text.now) }
+    {
+        for b in text {
+            self.feed(*b);
+        }
     }
 
     /// Begins the next command, where one is whole.
@@ -105,6 +140,25 @@ impl Assembler {
     {
         self.used = put(self.bytes.as_mut_slice(), self.used, byte);
     }
+
+    /// Keeps the text, for which there is room.
+    fn keep_all(&mut self, text: &[u8])
+        requires { length self.old.bytes + length text.now ≤ room }
+        ensures { self.new ≡ record { bytes = self.old.bytes ++ text.now; stage = self.old.stage } }
+    {
+        self.used = put_all(self.bytes.as_mut_slice(), self.used, text);
+    }
+}
+
+/// Puts the text behind the bytes that are used, and gives how many are used then.
+fn put_all(bytes: &mut [u8], used: usize, text: &[u8]) -> usize
+    requires { used + length text.now ≤ length bytes.old }
+    ensures end { result ≡ used + length text.now }
+    ensures kept { take result bytes.new ≡ take used bytes.old ++ text.now }
+{
+    let end = used + text.len();
+    bytes[used..end].copy_from_slice(text);
+    end
 }
 
 /// Puts the byte behind those that are used, where there is room, and gives how many are used then.

@@ -3,6 +3,7 @@ ghost use Rattle.std.specs.Option.{option_copied};
 ghost use Rattle.pb_grammar.specs.Grammar.{Said, Query, Assign, Table, Echo, Bad, IsCommand, IsText, is_deciding, echo_in, table_in, opened, with_body, opening_of, decided_at, plainly_said, said_in, command_of, line_text, said_of};
 ghost use Rattle.pb_words.specs.declared.refusals.Refusal.TheVariants as refusals;
 
+use crate::queries::queried_line;
 use crate::scanning::LONGEST;
 use crate::tables::{OpeningLine, is_printable, opening_in, scan_of};
 use crate::targets::is_target;
@@ -29,8 +30,18 @@ pub enum Command<'a> {
 }
 
 /// What these bytes of one command ask, its last newline included. Bytes that aren't one whole command are malformed.
-#[tactic(auto, unfolding(crate::specs::Grammar::command_of))]
 pub fn parse(bytes: &[u8]) -> Command<'_>
+    ensures { said_of result ≡ command_of bytes.now }
+{
+    match queried_line(bytes) {
+        Some(target) => Command::Query(target),
+        None => any_command(bytes),
+    }
+}
+
+/// The same, by the form of the bytes.
+#[tactic(auto, unfolding(crate::specs::Grammar::command_of))]
+fn any_command(bytes: &[u8]) -> Command<'_>
     ensures { said_of result ≡ command_of bytes.now }
 {
     match line_in(bytes) {

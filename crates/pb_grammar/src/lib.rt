@@ -6,6 +6,7 @@
 mod assembling;
 mod commands;
 mod laws;
+mod queries;
 mod scanning;
 mod stages;
 mod tables;

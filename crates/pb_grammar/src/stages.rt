@@ -4,6 +4,7 @@ ghost use Rattle.pb_grammar.specs.Feeding.{IsStage, IsNext, fault_of, room, stag
 ghost use Rattle.pb_grammar.specs.declared.stages.Stage.TheVariants as stages;
 
 use crate::commands::{Command, command_in};
+use crate::queries::queried;
 use crate::scanning::Scan;
 use crate::tables::opening_in;
 use crate::targets::is_target;
@@ -49,6 +50,16 @@ fn in_body(malformed: bool, scan: Scan, byte: u8) -> Stage
 
 /// The stage after the newline of the first line.
 fn after_first(kept: &[u8]) -> Stage
+    ensures { (seen : List ℕ) → IsText seen → kept.now ≡ take room seen → IsNext result (seen ++ 10 ∷ []) }
+{
+    match queried(kept) {
+        Some(_) => Stage::Whole(None),
+        None => after_any(kept),
+    }
+}
+
+/// The same, by the form of the line.
+fn after_any(kept: &[u8]) -> Stage
     ensures { (seen : List ℕ) → IsText seen → kept.now ≡ take room seen → IsNext result (seen ++ 10 ∷ []) }
 {
     match opening_in(kept) {

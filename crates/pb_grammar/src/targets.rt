@@ -17,7 +17,7 @@ pub(crate) fn is_target(text: &[u8]) -> bool
     }
 }
 
-fn within(low: usize, high: usize, n: usize) -> bool
+pub(crate) fn within(low: usize, high: usize, n: usize) -> bool
     ensures { result ≡ is_within low high n }
 {
     low <= n && n <= high
@@ -25,7 +25,7 @@ fn within(low: usize, high: usize, n: usize) -> bool
 
 /// How many names with points between them the text is; 0 for any other text.
 #[tactic(auto, using(crate::proofs::NameCounts::names_on_all))]
-fn names_in(text: &[u8]) -> usize
+pub(crate) fn names_in(text: &[u8]) -> usize
     ensures { result ≡ names_in text.now }
 {
     let mut count = 1;

@@ -20,14 +20,14 @@ pub spliced-is : {X : Type 0} (i : ℕ) (values xs : List X) → spliced i value
 unfolding spliced
 spliced-is i values xs = refl
 
-spliced-none : {X : Type 0} (i : ℕ) (xs : List X) → spliced i [] xs ≡ xs
+pub spliced-none : {X : Type 0} (i : ℕ) (xs : List X) → spliced i [] xs ≡ xs
 unfolding spliced
 spliced-none i xs =
     let e : i + 0 ≡ i = omega arith in
     ap (λ l. l ++ drop (i + 0) xs) (append-nil (take i xs))
     ∙ (ap (λ n. take i xs ++ drop n xs) e ∙ take-append-drop i xs)
 
-spliced-one : {X : Type 0} (i : ℕ) (v : X) (values xs : List X) → i < length xs →
+pub spliced-one : {X : Type 0} (i : ℕ) (v : X) (values xs : List X) → i < length xs →
     spliced (i + 1) values (set xs i v) ≡ spliced i (v ∷ values) xs
 unfolding spliced
 spliced-one i v values xs h =

@@ -1,13 +1,17 @@
 pub mod AgreeLemmas
 pub mod ArmLemmas
 pub mod BusLemmas
+pub mod EntryLemmas
 pub mod HaveLemmas
 pub mod InputLemmas
 pub mod Mapped
 pub mod NamedLemmas
+pub mod OutputLemmas
 pub mod PickLemmas
 pub mod PlaceLemmas
+pub mod PlacedLemmas
 pub mod ReadLemmas
+pub mod SameLemmas
 pub mod SettableLemmas
 pub mod SettingLemmas
 pub mod ShownLemmas

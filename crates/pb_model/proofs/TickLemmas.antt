@@ -23,7 +23,7 @@ use Rattle.pb_model.proofs.BusLemmas.{spliced, spliced-is, bits-bus, positions-b
 
 -- A block stays of its kind.
 
-unit_stays : (unit : AnyUnit) (inputs : Inputs) (tick : ℕ) → place_of (next unit inputs tick) ≡ place_of unit
+pub unit_stays : (unit : AnyUnit) (inputs : Inputs) (tick : ℕ) → place_of (next unit inputs tick) ≡ place_of unit
 unit_stays (units.Lut block) inputs tick = refl
 unit_stays (units.Srgate block) inputs tick = refl
 unit_stays (units.Div block) inputs tick = refl

@@ -49,7 +49,7 @@ impl BoxState {
 impl Block {
     /// Whether a step under these buses emits a record. An idle one emits none, whatever it sees.
     #[tactic(auto, using(crate::proofs::ArmLemmas::unit_quiet))]
-    fn emits(&self, buses: &Buses) -> bool
+    pub fn emits(&self, buses: &Buses) -> bool
         ensures { (tick : ℕ) → result ≡ is_record (emitted_by buses.now.bus tick self.now) }
     {
         if self.unit.is_idle() {
@@ -60,7 +60,7 @@ impl Block {
     }
 
     /// Arms PCAP, with room for so many records.
-    fn arm(&mut self, room: u64)
+    pub fn arm(&mut self, room: u64)
         requires kind { kind_of self.old ≡ pcap.BLOCK }
         requires idle { is_idle self.old.unit ≡ true }
         ensures { self.new ≡ with_unit (armed room) self.old }
@@ -69,7 +69,7 @@ impl Block {
     }
 
     /// Makes PCAP idle.
-    fn disarm(&mut self)
+    pub fn disarm(&mut self)
         requires kind { kind_of self.old ≡ pcap.BLOCK }
         requires busy { is_idle self.old.unit ≡ false }
         ensures { self.new ≡ with_unit disarmed self.old }
@@ -80,7 +80,7 @@ impl Block {
 
 impl Unit {
     /// Whether it is no PCAP, or one that is neither armed nor running.
-    fn is_idle(&self) -> bool
+    pub fn is_idle(&self) -> bool
         ensures { result ≡ is_idle self.now }
     {
         match self {

@@ -1,8 +1,8 @@
-ghost use Rattle.std.specs.Prelude.{◌≡◌, ◌+◌, ◌^◌, ◌<◌, ◌≤◌, true, false, map};
+ghost use Rattle.std.specs.Prelude.{◌≡◌, ◌+◌, ◌^◌, ◌<◌, ◌≤◌, true, false, map, IfSome};
 ghost use Rattle.pb_buses.specs.Buses.{position};
 ghost use Rattle.pb_model.specs.Tick.{inputs_of, seen_on, input_after, block_after, emitted_by, or_before, sees_all};
 ghost use Rattle.pb_model.specs.Units.{next, emitted};
-ghost use Rattle.pb_model.specs.Parts.{IsNarrow};
+ghost use Rattle.pb_model.specs.Parts.{IsNarrow, IsNextSight, earlier};
 
 use crate::units::Unit;
 use pb_buses::{Buses, Emit, Inputs, Machine, Mux};
@@ -44,6 +44,15 @@ impl Block {
                 bus: [0; 32],
             }
         }
+    }
+
+    /// After how many ticks the block sees something else of its bit inputs for the first time, where the buses
+    /// stand as they do and its delay lines go on: 1 to 31. None where it goes on to see the same.
+    pub fn next_change(&self, buses: &Buses) -> Option<u32>
+        ensures next { IsNextSight buses.now.bus self.now.bits result }
+        ensures few { IfSome result (λ n. n ≤ 31) }
+    {
+        next_sight(&self.bits, buses)
     }
 
     /// One tick: the block sees the buses, its delay lines take what its inputs select, and its unit steps.
@@ -173,6 +182,33 @@ fn seen(inputs: &[Mux; 5], buses: &Buses) -> [bool; 5]
         bits[i] = mux.seen(buses.selected(mux.select()));
     }
     bits
+}
+
+/// After how many ticks something else is seen of one of the inputs.
+fn next_sight(inputs: &[Mux; 5], buses: &Buses) -> Option<u32>
+    ensures next { IsNextSight buses.now.bus inputs.now result }
+    ensures few { IfSome result (λ n. n ≤ 31) }
+{
+    let mut first = None;
+    for i in 0..5 {
+        let mux = &inputs[i];
+        let change = mux.next_change(buses.selected(mux.select()));
+        first = earlier(first, change);
+    }
+    first
+}
+
+/// The earlier of two numbers of ticks, of which none is later than all.
+fn earlier(one: Option<u32>, other: Option<u32>) -> Option<u32>
+    ensures { result ≡ earlier one other }
+{
+    match one {
+        None => other,
+        Some(m) => match other {
+            None => Some(m),
+            Some(n) => Some(m.min(n)),
+        },
+    }
 }
 
 /// What a block sees of its bit inputs, whose delay lines take what they select.

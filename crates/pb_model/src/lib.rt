@@ -23,5 +23,6 @@ pub use laws::{
     what_is_set_stays,
 };
 pub use places::{MACHINES, machine};
+pub use shows::show_values;
 pub use ticks::tick;
 pub use units::Unit;

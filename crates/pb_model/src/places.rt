@@ -15,7 +15,7 @@ const DIVS: u8 = SRGATES + srgate::INSTANCES;
 
 const PULSES: u8 = DIVS + div::INSTANCES;
 
-const COUNTERS: u8 = PULSES + pulse::INSTANCES;
+pub(crate) const COUNTERS: u8 = PULSES + pulse::INSTANCES;
 
 const CLOCKS: u8 = COUNTERS + counter::INSTANCES;
 

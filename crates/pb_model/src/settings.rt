@@ -4,6 +4,7 @@ ghost use Rattle.pb_fields.specs.Values.{IsRaw};
 ghost use Rattle.pb_buses.specs.Delay.{wired, delayed, opening_input};
 ghost use Rattle.pb_model.specs.Changes.{IsChange, IsSet};
 ghost use Rattle.pb_model.specs.Tick.{kind_of as kind_of_block};
+ghost use Rattle.pb_model.specs.Units.{value_read};
 ghost use Rattle.pb_model.specs.Arming.{is_capture_idle, idle_by};
 ghost use Rattle.pb_model.specs.Settings.{is_pos_mux, position_place, with_value, with_setting, changed, read_of};
 
@@ -38,7 +39,7 @@ impl BoxState {
         ensures in_range { IsRaw (kind_of slot) result }
     {
         let place = machine(slot.block, slot.instance);
-        self.blocks[place as usize].unit.read(slot.field)
+        self.blocks[place as usize].read(slot)
     }
 
     /// The setting takes this raw value, and nothing else changes.
@@ -57,6 +58,17 @@ impl BoxState {
 }
 
 impl Block {
+    /// The value of a read field of the block at its own tick, that of a label being its number.
+    pub fn read(&self, slot: Slot) -> u64
+        requires slot { IsSlot slot }
+        requires read { role_at slot ≡ Role.Read }
+        requires kind { kind_of_block self.now ≡ slot.block }
+        ensures value { result ≡ value_read self.now.unit slot.field }
+        ensures in_range { IsRaw (kind_of slot) result }
+    {
+        self.unit.read(slot.field)
+    }
+
     /// The setting takes this raw value, and nothing else changes.
     pub fn set(&mut self, slot: Slot, raw: u64)
         requires set { IsSet slot raw }

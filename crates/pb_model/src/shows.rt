@@ -1,13 +1,33 @@
-ghost use Rattle.std.specs.Prelude.{◌≡◌, ◌+◌, ◌≤◌, ◌++◌, length};
+ghost use Rattle.std.specs.Prelude.{◌≡◌, ◌+◌, ◌<◌, ◌≤◌, ◌++◌, length, slice_index};
 ghost use Rattle.std.specs.List.{flat_map};
 ghost use Rattle.pb_model.specs.Units.{bit_outputs, position_outputs};
 ghost use Rattle.pb_model.specs.Tick.{kind_of, bits_of, positions_of};
+ghost use Rattle.pb_model.specs.Machines.{machine_kinds};
 ghost use Rattle.pb_model.specs.Kept.{with_bits, with_positions};
+ghost use Rattle.pb_model.specs.Parts.{bit_entry, position_entry, shown_at};
 
 use crate::blocks::Block;
+use crate::places::COUNTERS;
 use pb_buses::{Buses, Machine};
+use pb_names::{counter, inenc};
+
+/// The entry of the first bit output of each block, by its place among those with a machine.
+static BIT_ENTRIES: [u8; 35] = [
+    6, 7, 8, 9, 10, 11, 12, 13, 14, 15, 16, 17, 18, 20, 22, 24, 26, 27, 28, 29, 30, 31, 32, 33, 34,
+    35, 36, 37, 38, 39, 40, 47, 54, 56, 58,
+];
 
 impl Block {
+    /// Puts the block's outputs on the bus at a tick. The block stands at this place among those with a machine.
+    pub fn show(&self, place: u8, buses: &mut Buses, tick: u64)
+        requires place { place < 35 }
+        requires kind { kind_of self.now ≡ slice_index machine_kinds place }
+        ensures { buses.new ≡ shown_at place self.now tick buses.old }
+    {
+        self.show_bits(buses, bit_entry(place), tick);
+        self.show_positions(buses, position_entry(place), tick);
+    }
+
     /// Puts the block's bit outputs on the bus at a tick, from this entry on. The entry behind them.
     pub fn show_bits(&self, buses: &mut Buses, entry: u8, tick: u64) -> u8
         requires { entry + bit_outputs (kind_of self.now) ≤ 128 }
@@ -38,6 +58,22 @@ impl Block {
     }
 }
 
+/// The entry of the first bit output of the block at a place.
+fn bit_entry(place: u8) -> u8
+    requires { place < 35 }
+    ensures { result ≡ bit_entry place }
+{
+    BIT_ENTRIES[place as usize]
+}
+
+/// The entry of the position output of the block at a place: counters alone have one.
+fn position_entry(place: u8) -> u8
+    requires { place < 35 }
+    ensures { result ≡ position_entry place }
+{
+    inenc::INSTANCES + place.saturating_sub(COUNTERS).min(counter::INSTANCES)
+}
+
 /// Puts the bit outputs of all blocks on the bus at a tick, one block after the other from this entry on.
 /// The entry behind them.
 pub(crate) fn show_bits(blocks: &[Block], buses: &mut Buses, entry: u8, tick: u64) -> u8
@@ -65,7 +101,7 @@ pub(crate) fn show_positions(blocks: &[Block], buses: &mut Buses, entry: u8, tic
 }
 
 /// Puts these values on the bit bus at a tick, from this entry on.
-pub(crate) fn show_values(values: &[bool], buses: &mut Buses, entry: u8, tick: u64)
+pub fn show_values(values: &[bool], buses: &mut Buses, entry: u8, tick: u64)
     requires { entry + length values.now ≤ 128 }
     ensures { buses.new ≡ with_bits entry values.now tick buses.old }
 {

@@ -50,7 +50,7 @@ impl BoxState {
 impl Block {
     /// Writes the table of a sequencer, as `Rows::write` does. A refused write changes nothing.
     #[tactic(auto, using(crate::proofs::TableLemmas::block_is_left))]
-    fn write(&mut self, append: bool, base64: bool, body: &[u8]) -> Result<(), Refusal>
+    pub fn write(&mut self, append: bool, base64: bool, body: &[u8]) -> Result<(), Refusal>
         requires { kind_of self.old ≡ seq.BLOCK }
         ensures told { result ≡ answer_of (written (words_of self.old.unit) append base64 body.now) }
         ensures left { self.new ≡ block_left self.old (written (words_of self.old.unit) append base64 body.now) }

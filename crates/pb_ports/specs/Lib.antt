@@ -1,4 +1,8 @@
 pub mod Adapters
 pub mod Counts
+pub mod Doors
+pub mod FakeDoors
 pub mod Fakes
+pub mod Moments
 pub mod Ports
+pub mod Starting

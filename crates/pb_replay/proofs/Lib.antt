@@ -18,3 +18,5 @@ pub mod ScriptPlays
 pub mod TakenPieces
 pub mod CopiedRows
 pub mod ReadersPlayed
+pub mod NewlineLemmas
+pub mod HeadLemmas

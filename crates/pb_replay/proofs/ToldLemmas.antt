@@ -1,12 +1,13 @@
 -- What the core answers to the events of a script, where it says so.
-use Rattle.std.proofs.Common.{◌≡◌, ℕ, List, [], true, Option, Some, Result, Ok, Err, IfOk, OnOk, is_ok, sym, ap, subst, ◌∙◌}
+use Rattle.std.proofs.Common.{◌≡◌, ℕ, ◌-◌, ◌≤◌, List, [], true, Option, Some, Result, Ok, Err, IfOk, OnOk, is_ok, sym, ap, subst, ◌∙◌, arith}
 use Rattle.std.specs.Option.{option_map_or}
 use Rattle.pb_core.specs.declared.Event.{Event}
 use Rattle.pb_core.specs.declared.Event.TheVariants as events
 use Rattle.pb_core.specs.declared.Answer.{Answer}
 use Rattle.pb_core.specs.declared.Answer.TheVariants as answers
 use Rattle.pb_core.specs.declared.Why.TheVariants as whys
-use Rattle.pb_core.specs.Answer.{CoreState, answer, after, IsTold, after_told, bytes_of}
+use Rattle.pb_model.specs.Tick.{Standing}
+use Rattle.pb_core.specs.Answer.{CoreState, ticks_of_core, answer, after, IsTold, after_told, bytes_of}
 use Rattle.pb_core.specs.Kept.{KeptCore, Agrees}
 use Rattle.pb_replay.specs.declared.played.Played.{Played}
 use Rattle.pb_replay.specs.Output.{Receiver, receiver_of, section, written}
@@ -91,3 +92,10 @@ same_plays state event other end before p old now e h = subst (λ x. PlaysOn (wr
 
 pub same_leaves : (state : CoreState) (event other : Event) (kept : KeptCore) → event ≡ other → Agrees kept (after state event) → Agrees kept (after state other)
 same_leaves state event other kept e h = subst (λ x. Agrees kept (after state x)) e h
+
+-- a box that has been there already doesn't go
+pub there_already : (state : CoreState) (kept : KeptCore) (to : ℕ) → to ≤ kept.box.tick → Agrees kept state → Agrees kept (after state (events.Advance to))
+there_already state kept to there h =
+    let at : kept.box.tick ≡ state.box.stands.tick = ap (λ (s : Standing). s.tick) h.box.stands in
+    let none : to - state.box.stands.tick ≡ 0 = omega (arith, there, at) in
+    subst (λ n. Agrees kept (ticks_of_core n state)) (sym none) h

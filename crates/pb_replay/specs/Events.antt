@@ -4,7 +4,7 @@
 use Rattle.std.specs.Prelude.{ℕ, zero, suc, ◌-◌, ◌^◌, Bool, true, false, List, [], ◌∷◌, ◌++◌, replicate, slice_index_or, slice_set, if◌then◌else◌}
 use Rattle.std.specs.List.{flat_map}
 use Rattle.pb_grammar.specs.Grammar.{Said, Bad, command_of}
-use Rattle.pb_grammar.specs.Streams.{is_whole}
+pub use Rattle.pb_grammar.specs.Streams.{is_whole, with_line, left_waiting}
 use Rattle.pb_core.specs.declared.Answer.{Answer}
 use Rattle.pb_core.specs.declared.Answer.TheVariants as answers
 use Rattle.pb_core.specs.declared.Event.{Event}
@@ -26,14 +26,6 @@ waits_of waiting session = slice_index_or waiting (session - 1) []
 
 abbrev pub with_waiting : ℕ → List ℕ → List (List ℕ) → List (List ℕ)
 with_waiting session bytes waiting = slice_set waiting (session - 1) bytes
-
--- the bytes that a session has sent of a command: those that waited, the text of its next line, and a newline
-abbrev pub with_line : List ℕ → List ℕ → List ℕ
-with_line waiting text = (waiting ++ text) ++ 10 ∷ []
-
--- what waits of it after the next line: nothing, where that completes the command
-abbrev pub left_waiting : List ℕ → List ℕ → List ℕ
-left_waiting waiting text = if is_whole (with_line waiting text) then [] else with_line waiting text
 
 -- What waits after a line of the script. A session that closes forgets what it has sent of a command.
 abbrev pub waits_after : List (List ℕ) → Line → List (List ℕ)

@@ -13,3 +13,4 @@ pub mod Refused
 pub mod Script
 pub mod Steps
 pub mod Waiting
+pub mod Newlines

@@ -6,7 +6,6 @@ ghost use Rattle.pb_core.specs.Sessions.{IsSession};
 ghost use Rattle.pb_replay.specs.Events.{nothing_waits, waits_of, with_waiting, with_line, left_waiting};
 ghost use Rattle.pb_replay.specs.Waiting.{AreFed, kept_of};
 
-use crate::feeding::feed_line;
 use pb_grammar::Assembler;
 use pb_words::{OutOfMemory, Refusal};
 use std::alloc::Global;
@@ -50,7 +49,7 @@ impl Assemblers {
         ensures fed { (waiting : List (List ℕ)) → AreFed self.old waiting → AreFed self.new (with_waiting session (left_waiting (waits_of waiting session) text.now) waiting) }
         ensures ended { IsTrue result → HasWhole (kept_of self.new session) }
     {
-        feed_line(&mut self.each[(session - 1) as usize], text)
+        self.each[(session - 1) as usize].feed_line(text)
     }
 
     /// The bytes of the command that the last line of a session completed, or why it is refused.

@@ -3,19 +3,29 @@ ghost use Rattle.std.specs.List.{list_all};
 ghost use Rattle.std.specs.Option.{option_copied};
 ghost use Rattle.pb_words.specs.Signed.{is_uint, is_digit};
 ghost use Rattle.pb_grammar.specs.Grammar.{IsText};
+ghost use Rattle.pb_replay.specs.Newlines.{IsNewline};
 ghost use Rattle.pb_replay.specs.Reading.{is_space, before_space, after_space, text_behind, is_signed};
+
+use memchr::memchr;
 
 /// The first line without its newline, and what follows it.
 pub(crate) fn cut_line(text: &[u8]) -> Option<(&[u8], &[u8])>
     ensures found { IfSome result (λ cut. IsText cut.0.now × (text.now ≡ cut.0.now ++ 10 ∷ cut.1.now)) }
     ensures none { IfNone result (IsText text.now) }
 {
-    for (i, b) in text.iter().enumerate() {
-        if *b == b'\n' {
-            return Some((&text[..i], &text[i + 1..]));
-        }
+    match newline(text) {
+        Some(place) => Some((&text[..place], &text[place + 1..])),
+        None => None,
     }
-    None
+}
+
+/// The place of the first newline.
+#[tactic(auto, using(crate::proofs::NewlineLemmas::at_newline, crate::proofs::NewlineLemmas::no_newline))]
+fn newline(text: &[u8]) -> Option<usize>
+    ensures found { IfSome result (IsNewline text.now) }
+    ensures none { IfNone result (IsText text.now) }
+{
+    memchr(b'\n', text)
 }
 
 /// What stands before the first space, and what after it, if there is one.

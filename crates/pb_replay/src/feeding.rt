@@ -1,33 +1,16 @@
-ghost use Rattle.std.specs.Prelude.{◌≡◌, ℕ, List, [], IsTrue, IfOk, Some};
-ghost use Rattle.pb_grammar.specs.Grammar.{IsText};
-ghost use Rattle.pb_grammar.specs.Streams.{is_whole};
-ghost use Rattle.pb_grammar.specs.Feeding.{Fed, Completed, HasWhole};
+ghost use Rattle.std.specs.Prelude.{◌≡◌, ℕ, List, IfOk, Some};
+ghost use Rattle.pb_grammar.specs.Feeding.{Completed, HasWhole};
 ghost use Rattle.pb_core.specs.Answer.{CanHappen};
 ghost use Rattle.pb_core.specs.Sessions.{IsSession};
-ghost use Rattle.pb_replay.specs.Events.{with_line, left_waiting, sent};
+ghost use Rattle.pb_replay.specs.Events.{sent};
 ghost use Rattle.pb_replay.specs.Output.{receiver_of};
 ghost use Rattle.pb_replay.specs.Waiting.{kept_of};
 ghost use Rattle.pb_replay.specs.declared.sections.Port.{Port};
 
 use crate::assemblers::Assemblers;
 use pb_core::Event;
-use pb_grammar::Assembler;
 use pb_words::{OutOfMemory, Text};
 use std::alloc::Global;
-
-/// Feeds a line of a session to its assembler, and says whether it completes a command.
-pub(crate) fn feed_line(assembler: &mut Assembler, text: &[u8]) -> bool
-    requires { IsText text.now }
-    ensures whole { (waiting : List ℕ) → Fed assembler.old waiting → result ≡ is_whole (with_line waiting text.now) }
-    ensures completed { (waiting : List ℕ) → Fed assembler.old waiting → IsTrue result → Completed assembler.new (with_line waiting text.now) }
-    ensures fed { (waiting : List ℕ) → Fed assembler.old waiting → Fed assembler.new (left_waiting waiting text.now) }
-    ensures ended { IsTrue result → HasWhole assembler.new }
-{
-    for b in text {
-        assembler.feed(*b);
-    }
-    assembler.feed(b'\n')
-}
 
 /// The event of the command that is whole, in this text where it has one.
 pub(crate) fn whole_event(

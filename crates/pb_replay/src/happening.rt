@@ -1,9 +1,10 @@
 ghost use Rattle.std.specs.Prelude.{◌≡◌, ◌<◌, ◌≤◌, ◌^◌, true, false, Some, IfOk, OnOk, IsTrue};
 ghost use Rattle.pb_ports.specs.Ports.{Rose};
 ghost use Rattle.pb_core.specs.Kept.{Agrees};
-ghost use Rattle.pb_core.specs.Answer.{CoreState, CanHappen, answer, after};
+ghost use Rattle.pb_core.specs.Answer.{CoreState, CanHappen, answer, after, bytes_of};
+ghost use Rattle.pb_core.specs.Sessions.{IsSession};
 ghost use Rattle.pb_core.specs.declared.Event.TheVariants as events;
-ghost use Rattle.pb_replay.specs.Output.{receiver_of, written};
+ghost use Rattle.pb_replay.specs.Output.{receiver_of, written, section};
 ghost use Rattle.pb_replay.specs.Pending.{PlaysOn, IsQuiet, IsAnswered, is_at_target};
 
 use crate::played::Played;
@@ -44,12 +45,16 @@ impl Player {
     }
 
     /// The box goes to this tick, unless memory is wanting for a record on the way: then the answer is false.
+    #[tactic(auto, using(crate::proofs::ToldLemmas::there_already))]
     pub(crate) fn advance<L: Ledger>(&mut self, to: u64, steps: &mut Steps<L>) -> bool
         requires { to < 2 ^ 62 }
         ensures core { IsTrue result → (state : CoreState) → Agrees self.old.core state → Agrees self.new.core (after state (events.Advance to)) }
         ensures assemblers { self.new.assemblers ≡ self.old.assemblers }
         ensures pending { self.new.pending ≡ self.old.pending }
     {
+        if to <= self.core.now() {
+            return true;
+        }
         match self.core.apply(&Event::Advance { to }, steps) {
             Ok(answer) => is_at_target(&answer),
             Err(_) => false,
@@ -66,6 +71,7 @@ impl Player {
         steps: &mut Steps<L>,
     ) -> Played
         requires can { CanHappen event.now }
+        requires session { IsSession session }
         requires told { receiver_of event.now ≡ Some (record { port = port; session = session }) }
         ensures plays { (state : CoreState) → Agrees self.old.core state →
             PlaysOn (written state event.now) result self.old.pending (K.held output.old) self.new.pending (K.held output.new) }
@@ -76,16 +82,37 @@ impl Player {
     {
         let tick = self.core.now();
         match self.answer(event, steps) {
-            Ok(answer) => write_section(
-                tick,
-                port,
-                session,
-                answer.bytes(),
-                &mut self.pending,
-                output,
-            ),
+            Ok(answer) => self.hand_out(tick, port, session, answer, output),
             Err(_) => Played::OutOfMemory,
         }
+    }
+
+    /// A session is told an answer. The core gets its memory back.
+    fn hand_out<K: Sink>(
+        &mut self,
+        tick: u64,
+        port: Port,
+        session: u32,
+        answer: Answer,
+        output: &mut K,
+    ) -> Played
+        requires { IsSession session }
+        ensures plays { PlaysOn (section tick port session (bytes_of answer)) result self.old.pending (K.held output.old) self.new.pending (K.held output.new) }
+        ensures core { self.new.core ≡ self.old.core }
+        ensures assemblers { self.new.assemblers ≡ self.old.assemblers }
+        ensures cause { result ≡ Played.WriteFault → Rose (K.faults output.old) (K.faults output.new) }
+        ensures count { K.faults output.old ≤ K.faults output.new }
+    {
+        let played = write_section(
+            tick,
+            port,
+            session,
+            answer.bytes(),
+            &mut self.pending,
+            output,
+        );
+        self.core.give_back(answer);
+        played
     }
 
     /// What the core answers to an event of which a session is told.

@@ -3,6 +3,9 @@ ghost use Rattle.pb_stim.specs.declared.Cause.{Cause};
 ghost use Rattle.pb_replay.specs.Script.{Line, IsLine, IsScript};
 ghost use Rattle.pb_replay.specs.Reading.{line_in};
 ghost use Rattle.pb_replay.specs.Faults.{first_fault};
+ghost use Rattle.pb_replay.specs.Kept.{kept};
+ghost use Rattle.pb_replay.specs.Output.{output};
+ghost use Rattle.pb_replay.specs.Plays.{kept_output};
 
 /// A text is a line exactly where that line is computed of it.
 pub fn lines_are_computed()
@@ -15,10 +18,6 @@ pub fn scripts_are_read_or_refused()
     ensures not_both { (bytes : List ℕ) (lines : List Line) → IsScript bytes lines → first_fault bytes ≡ None }
     ensures one_way { (bytes : List ℕ) (lines others : List Line) → IsScript bytes lines → IsScript bytes others → lines ≡ others }
 {}
-
-ghost use Rattle.pb_replay.specs.Kept.{kept};
-ghost use Rattle.pb_replay.specs.Output.{output};
-ghost use Rattle.pb_replay.specs.Plays.{kept_output};
 
 /// What is kept of a script has the output of all its lines.
 pub fn kept_scripts_have_their_output()

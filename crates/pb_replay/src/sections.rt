@@ -14,8 +14,9 @@ pub enum Port {
 /// How many bytes are put together before they are written: 64 KiB.
 const FULL: usize = 65_536;
 
-ghost use Rattle.std.specs.Prelude.{◌≡◌, ℕ, ◌<◌, ◌≤◌, [], ◌++◌, length, OnOk};
+ghost use Rattle.std.specs.Prelude.{◌≡◌, ℕ, ◌<◌, ◌≤◌, [], ◌∷◌, ◌++◌, length, codes, decimal, OnOk};
 ghost use Rattle.pb_ports.specs.Ports.{Rose};
+ghost use Rattle.pb_core.specs.Sessions.{IsSession};
 ghost use Rattle.pb_replay.specs.Output.{port_text, section};
 ghost use Rattle.pb_replay.specs.Pending.{PlaysOn};
 ghost use Rattle.pb_replay.specs.Plays.{Plays};
@@ -29,6 +30,7 @@ pub(crate) fn write_section<K: Sink>(
     pending: &mut Text,
     output: &mut K,
 ) -> Played
+    requires { IsSession session }
     ensures plays { PlaysOn (section tick port session bytes.now) result pending.old (K.held output.old) pending.new (K.held output.new) }
     ensures cause { result ≡ Played.WriteFault → Rose (K.faults output.old) (K.faults output.new) }
     ensures count { K.faults output.old ≤ K.faults output.new }
@@ -69,24 +71,32 @@ fn add_section(
     bytes: &[u8],
     text: &mut Text,
 ) -> Result<(), OutOfMemory>
-    requires { 0 < length bytes.now }
+    requires some { 0 < length bytes.now }
+    requires session { IsSession session }
     ensures { OnOk result (text.new ≡ text.old ++ section tick port session bytes.now) }
 {
     text.append_number(tick)?;
-    text.append(letter(port))?;
-    text.append_number(u64::from(session))?;
-    text.append(b" ")?;
+    text.append(&receiver(port, session))?;
     text.append_number(bytes.len() as u64)?;
     text.append(b"\n")?;
     text.append(bytes)
 }
 
-/// The letter of a port, between spaces.
-fn letter(port: Port) -> &'static [u8]
-    ensures { result.now ≡ port_text port }
+/// The letter of a port and the number of a session, with a space before and behind each.
+#[tactic(auto, using(crate::proofs::HeadLemmas::receiver_is))]
+fn receiver(port: Port, session: u32) -> [u8; 5]
+    requires { IsSession session }
+    ensures { result ≡ port_text port ++ decimal session ++ codes " " }
+{
+    [b' ', letter(port), b' ', b'0' + session as u8, b' ']
+}
+
+/// The letter of a port.
+fn letter(port: Port) -> u8
+    ensures { port_text port ≡ 32 ∷ result ∷ 32 ∷ [] }
 {
     match port {
-        Port::Control => b" C ",
-        Port::Data => b" D ",
+        Port::Control => b'C',
+        Port::Data => b'D',
     }
 }

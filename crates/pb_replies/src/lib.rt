@@ -13,5 +13,5 @@ pub use lists::{
     attributes_reply, blocks_reply, fields_reply, has_labels, labels_reply, positions_reply,
     row_reply, word_reply,
 };
-pub use replies::{end_list, list_pair, number_reply, value_reply};
+pub use replies::{end_list, list_pair, number_reply, put_value, value_reply};
 pub use tables::{base64_reply, table_reply};

@@ -9,10 +9,17 @@ pub fn value_reply(alloc: Global, value: &[u8]) -> Result<Text, OutOfMemory>
     ensures { IfOk result (λ text. text ≡ value_reply value.now) }
 {
     let mut text = Text::new(alloc);
+    put_value(&mut text, value)?;
+    Ok(text)
+}
+
+/// Adds the reply of one value.
+pub fn put_value(text: &mut Text, value: &[u8]) -> Result<(), OutOfMemory>
+    ensures { OnOk result (text.new ≡ text.old ++ value_reply value.now) }
+{
     text.append(b"OK =")?;
     text.append(value)?;
-    text.append(b"\n")?;
-    Ok(text)
+    text.append(b"\n")
 }
 
 /// The reply of a number.

@@ -1,1 +1,11 @@
+pub mod FormLemmas
+pub mod InputLemmas
+pub mod LineCuts
+pub mod NumberLemmas
+pub mod ReadLemmas
+pub mod ReadSoFar
+pub mod RuleLemmas
+pub mod SpaceLemmas
+pub mod StimulusLaws
 pub mod StimulusLemmas
+pub mod ValueLemmas

@@ -1,7 +1,7 @@
 ghost use Rattle.std.specs.Prelude.{◌≡◌, ℕ, List, [], ◌++◌, decimal, OnOk, OnErr};
 
 use crate::memory::OutOfMemory;
-use crate::numbers::write_u64;
+use itoa::Buffer;
 use std::alloc::Global;
 use std::marker::Model;
 
@@ -41,9 +41,8 @@ impl Text {
         ensures ok { OnOk result (self.new ≡ self.old ++ decimal number) }
         ensures err { OnErr result (self.new ≡ self.old) }
     {
-        let mut digits = [0; 48];
-        let len = write_u64(number, &mut digits);
-        self.append(&digits[..len])
+        let mut buffer = Buffer::new();
+        self.append(buffer.format(number).as_bytes())
     }
 
     /// The bytes of the text.

@@ -17,6 +17,7 @@ use std::sync::ledger::Ledger;
 
 impl Core {
     /// The ticks up to this one, or up to one that emits a record for which there is no memory.
+    #[inline(never)]
     pub(crate) fn advance<L: Ledger>(&mut self, to: u64, steps: &mut Steps<L>) -> Why
         requires { to < 2 ^ 62 }
         ensures agrees { (core : CoreState) → Agrees self.old core → Stopped core self.new to result }
@@ -45,6 +46,7 @@ impl Core {
     }
 
     /// One tick. There is room in memory for the record that it emits, if it emits one.
+    #[inline(never)]
     fn step<L: Ledger>(&mut self, steps: &mut Steps<L>)
         requires small { self.old.box.tick + 1 < 2 ^ 62 }
         requires room { is_record (emitted_of (stands_of self.old.box)) ≡ true → 1 ≤ spare_of self.old.acquisitions }

@@ -19,6 +19,7 @@ use pb_words::{OutOfMemory, Refusal, Text};
 impl Core {
     /// The report of a group, or of all, to a session that is open: what has changed since it was last told. On want of
     /// memory it counts as not told.
+    #[inline(never)]
     pub(crate) fn report(&mut self, id: u32, group: Option<Group>) -> Result<Answer, OutOfMemory>
         requires { IsSession id }
         ensures answer { (core : CoreState) → Agrees self.old core → IfOk result (λ told. told ≡ answers.Reply (reports_to core id group)) }
@@ -63,6 +64,7 @@ impl Core {
         }
     }
 
+    #[inline(never)]
     fn reset(&mut self, id: u32, group: Option<Group>, all: bool)
         requires { IsSession id }
         ensures core { (core : CoreState) → Agrees self.old core → Agrees self.new (after_resetting core id group all) }

@@ -3,7 +3,6 @@ use Rattle.std.specs.List.{filter}
 use Rattle.pb_acquire.specs.Acquisitions.{AllAcquisitions}
 use Rattle.pb_acquire.specs.Kept as acquire
 use Rattle.pb_core.specs.Captures.{so_many, is_busy_reading}
-use Rattle.pb_core.specs.Sessions.{is_reading}
 use Rattle.pb_core.proofs.SessionLemmas.{ids_from}
 use Rattle.pb_core.proofs.captures.active_count.Given as goal
 

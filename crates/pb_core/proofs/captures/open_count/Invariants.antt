@@ -2,7 +2,7 @@ use Rattle.std.proofs.Common.{◌≡◌, ◌+◌, ◌<◌, ◌≤◌, length}
 use Rattle.std.specs.List.{filter}
 use Rattle.pb_acquire.specs.Acquisitions.{AllAcquisitions}
 use Rattle.pb_acquire.specs.Kept as acquire
-use Rattle.pb_core.specs.Captures.{so_many, is_busy_reading}
+use Rattle.pb_core.specs.Captures.{so_many}
 use Rattle.pb_core.specs.Sessions.{is_reading}
 use Rattle.pb_core.proofs.SessionLemmas.{ids_from}
 use Rattle.pb_core.proofs.captures.open_count.Given as goal

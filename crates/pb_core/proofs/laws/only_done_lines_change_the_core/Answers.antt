@@ -1,4 +1,3 @@
-use Rattle.std.proofs.Common.{◌≡◌}
 use Rattle.pb_grammar.specs.Grammar.{command_of}
 use Rattle.pb_core.specs.Sessions.{is_open}
 use Rattle.pb_core.proofs.DoneLemmas.{event_refused, event_closed, line_replied}

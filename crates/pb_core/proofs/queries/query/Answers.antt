@@ -1,9 +1,11 @@
-use Rattle.std.proofs.Common.{◌≡◌, false, Ok, Err, IfOk, refl, sym, ap, subst, ◌∙◌, rules}
-use Rattle.pb_core.specs.Answer.{IsReply}
+use Rattle.std.proofs.Common.{◌≡◌, false, Ok, IfOk, sym, ap, subst, ◌∙◌, rules}
+use Rattle.pb_core.specs.Answer.{IsReply, asked_of}
+use Rattle.pb_core.specs.Kept.{KeptCore, Agrees}
+use Rattle.pb_core.specs.Naming.{named_by}
 use Rattle.pb_core.specs.Helpers.{is_report}
 use Rattle.pb_core.specs.Telling.{reports_to}
 use Rattle.pb_core.proofs.DeedLemmas.{where_ok, where_err, always_ok, always_err}
-use Rattle.pb_core.proofs.QueryLemmas.{kept_reply, report_reply, refused_reply, report_left, other_left, refused_left}
+use Rattle.pb_core.proofs.QueryLemmas.{kept_reply, report_reply, report_left, other_left}
 use Rattle.pb_core.proofs.queries.query.Goals as goal
 
 pub returns-in-Ok-Changes-clause-ok : goal.returns-in-Ok-Changes-clause-ok
@@ -34,15 +36,17 @@ returns-in-Ok c =
     let other : is_report c.in-Ok.named ≡ false = search rules in
     record {
       ok = λ state h.
-          subst (λ told. IfOk c.named_answer.result (λ given. given ≡ told))
+          subst (λ told. IfOk c.asked.result (λ given. given ≡ told))
           (kept_reply c.args.core.now state c.args.id c.args.target.now c.in-Ok.named h e)
-          (c.named_answer.ensures.ok state.acquisitions (reports_to state c.args.id) h.acquisitions);
+          (c.asked.ensures.ok state.acquisitions (reports_to state c.args.id) h.acquisitions);
       core = λ state h.
-          always_ok c.named_answer.result _ (other_left c.args.core.now state c.args.id c.args.target.now c.in-Ok.named e other h);
-      err = always_err c.named_answer.result _ refl;
+          always_ok c.asked.result _
+          (subst (λ kept. Agrees kept (asked_of state c.args.id (named_by c.args.target.now))) (sym c.asked.ensures.same)
+          (other_left c.args.core.now state c.args.id c.args.target.now c.in-Ok.named e other h));
+      err = always_err c.asked.result _ c.asked.ensures.same;
       memory = λ state h.
-          where_err c.named_answer.result _ _
+          where_err c.asked.result _ _
           (subst IsReply (kept_reply c.args.core.now state c.args.id c.args.target.now c.in-Ok.named h e))
-          (c.named_answer.ensures.memory state.acquisitions (reports_to state c.args.id) h.acquisitions);
-      tick = refl;
+          (c.asked.ensures.memory state.acquisitions (reports_to state c.args.id) h.acquisitions);
+      tick = ap (λ (kept : KeptCore). kept.box.tick) c.asked.ensures.same;
     }

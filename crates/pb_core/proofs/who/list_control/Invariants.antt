@@ -1,8 +1,6 @@
 use Rattle.std.proofs.Common.{◌≡◌, ◌≤◌, ◌++◌, codes}
 use Rattle.std.specs.List.{flat_map}
-use Rattle.pb_acquire.specs.Acquisitions.{AllAcquisitions}
-use Rattle.pb_acquire.specs.Kept as acquire
-use Rattle.pb_core.specs.Sessions.{session_ids, is_open, is_reading}
+use Rattle.pb_core.specs.Sessions.{session_ids, is_open}
 use Rattle.pb_core.specs.Who.{session_line}
 use Rattle.pb_core.proofs.SessionLemmas.{ids_from}
 use Rattle.pb_core.proofs.who.list_control.Given as goal

@@ -1,7 +1,8 @@
 use Rattle.std.proofs.Common.{[], map, ap, ◌∙◌, arith}
 use Rattle.std.specs.List.{range_with_len}
 use Rattle.pb_fields.specs.declared.Slot.{Slot}
-use Rattle.pb_config.specs.KeptConfig.{KeptConfig, with_raw, with_clearing}
+use Rattle.pb_config.specs.KeptConfig.{KeptConfig, with_clearing}
+use Rattle.pb_config.specs.KeptParts.{with_raw}
 use Rattle.pb_config.proofs.CapturingLemmas.{positions, own, all_slots, one_cleared, all_cleared}
 use Rattle.pb_config.proofs.configs.Config.clear_captures.Goals as goal
 

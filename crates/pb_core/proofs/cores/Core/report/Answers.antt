@@ -1,4 +1,4 @@
-use Rattle.std.proofs.Common.{◌≡◌, sym, ap, subst}
+use Rattle.std.proofs.Common.{sym, ap, subst}
 use Rattle.pb_changes.specs.Report.{after_report}
 use Rattle.pb_core.specs.Kept.{KeptCore, Agrees}
 use Rattle.pb_core.specs.Sessions.{reported_to}

@@ -1,4 +1,4 @@
-use Rattle.std.proofs.Common.{◌≡◌, OnOk, sym, subst}
+use Rattle.std.proofs.Common.{OnOk, sym, subst}
 use Rattle.pb_changes.specs.Kept.{Keeps}
 use Rattle.pb_changes.specs.Report.{after_report}
 use Rattle.pb_core.specs.Kept.{KeptCore, Agrees}

@@ -5,7 +5,6 @@ use Rattle.pb_model.specs.Tick.{kind_of}
 use Rattle.pb_model.specs.Kept.{Kept}
 use Rattle.pb_model.specs.Settings.{read_of}
 use Rattle.pb_model.proofs.SettingLemmas.{read_block}
-use Rattle.pb_model.proofs.ReadLemmas.{readable, read_in_range}
 use Rattle.pb_model.proofs.UnitLemmas.{place_inside, kind_named, read_is}
 use Rattle.pb_model.proofs.boxes.BoxState.read.Goals as goal
 
@@ -21,13 +20,12 @@ index-requires c =
           (read_block c.args.slot c.requires.slot c.requires.read),
     )
 
-pub read-requires : goal.read-requires
-read-requires c =
-    readable c.index.result.now.unit c.args.slot c.requires.slot c.requires.read
-    (ap kind_of c.index.ensures
+pub read-requires-clause-kind : goal.read-requires-clause-kind
+read-requires-clause-kind c =
+    ap kind_of c.index.ensures
     ∙ (ap (λ n. kind_of (get_or c.self.inside.blocks.items n c.index.result.now)) c.machine-place.ensures.place
     ∙ kind_named c.self.inside.blocks.items c.args.slot c.index.result.now c.self.invariant.kinds c.requires.slot
-    (read_block c.args.slot c.requires.slot c.requires.read)))
+    (read_block c.args.slot c.requires.slot c.requires.read))
 
 pub returns-clause-value : goal.returns-clause-value
 returns-clause-value c =
@@ -42,12 +40,3 @@ returns-clause-value c =
     ∙ (read_is kept c.args.slot c.machine-place.result c.index.result.now c.self.invariant c.requires.slot
     (read_block c.args.slot c.requires.slot c.requires.read) c.machine-place.ensures.place
     ∙ ap (λ (k : Kept). read_of k.blocks c.args.slot) c.self.view_is))
-
-pub returns-clause-in_range : goal.returns-clause-in_range
-returns-clause-in_range c =
-    read_in_range c.index.result.now.unit c.args.slot c.read.result c.requires.slot c.requires.read
-    (ap kind_of c.index.ensures
-    ∙ (ap (λ n. kind_of (get_or c.self.inside.blocks.items n c.index.result.now)) c.machine-place.ensures.place
-    ∙ kind_named c.self.inside.blocks.items c.args.slot c.index.result.now c.self.invariant.kinds c.requires.slot
-    (read_block c.args.slot c.requires.slot c.requires.read)))
-    c.read.ensures.value c.read.ensures.small

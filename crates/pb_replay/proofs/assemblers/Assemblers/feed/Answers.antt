@@ -14,5 +14,5 @@ returns-clause-fed c waiting h =
     subst (λ k. Fed k (waits_of waiting c.args.session))
     (get_or_default c.self.inside.each.items (c.args.session - 1) nothing c.index_mut.result.now room ∙ sym c.index_mut.ensures.value)
     (inside.each c.args.session c.requires.session) in
-    fed_set c.self.inside.each.items waiting c.args.session c.feed_line.new.assembler (left_waiting (waits_of waiting c.args.session) c.args.text.now) c.self.invariant c.requires.session inside
+    fed_set c.self.inside.each.items waiting c.args.session c.feed_line.new.self (left_waiting (waits_of waiting c.args.session) c.args.text.now) c.self.invariant c.requires.session inside
     (c.feed_line.ensures.fed (waits_of waiting c.args.session) own)

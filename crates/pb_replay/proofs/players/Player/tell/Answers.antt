@@ -1,3 +1,6 @@
+use Rattle.std.proofs.Common.{◌≡◌, refl, sym, subst}
+use Rattle.pb_core.specs.Kept.{Agrees}
+use Rattle.pb_core.specs.Answer.{after, bytes_of}
 use Rattle.pb_replay.proofs.ToldLemmas.{is_answered, written_is, told_plays}
 use Rattle.pb_replay.proofs.players.Player.tell.Goals as goal
 
@@ -6,6 +9,10 @@ answer-requires-clause-told g c = is_answered c.args.event.now _ c.requires.told
 
 pub returns-in-Ok-clause-plays : goal.returns-in-Ok-clause-plays
 returns-in-Ok-clause-plays g c = λ state h.
-    told_plays _ _ c.write_section.result c.args.self.now.pending c.answer.new.self.pending c.write_section.new.pending (g.K.Sink.held c.args.output.now) (g.K.Sink.held c.write_section.new.output)
-    (written_is state c.args.self.now.core c.args.event.now _ c.now-tick.result c.in-Ok.answer c.bytes.result.now h c.now-tick.ensures.now c.requires.told (c.in-Ok.ensures.ok state h) c.bytes.ensures) c.answer.ensures.pending
-    c.write_section.ensures.plays
+    told_plays _ _ c.hand_out.result c.args.self.now.pending c.answer.new.self.pending c.hand_out.new.self.pending (g.K.Sink.held c.args.output.now) (g.K.Sink.held c.hand_out.new.output)
+    (written_is state c.args.self.now.core c.args.event.now _ c.now-tick.result c.in-Ok.answer (bytes_of c.in-Ok.answer) h c.now-tick.ensures.now c.requires.told (c.in-Ok.ensures.ok state h) refl) c.answer.ensures.pending
+    c.hand_out.ensures.plays
+
+pub returns-in-Ok-clause-core : goal.returns-in-Ok-clause-core
+returns-in-Ok-clause-core g c = λ there state h.
+    subst (λ kept. Agrees kept (after state c.args.event.now)) (sym c.hand_out.ensures.core) (c.in-Ok.ensures.core state h)

@@ -1,0 +1,30 @@
+-- Busy blocks and eventful ticks are counted once.
+use Rattle.std.proofs.Common.{◌≡◌, ℕ, zero, suc, ◌+◌, ◌||◌, nat_lt, List, [], ◌∷◌, sym, ap, ◌∙◌, inl, inr, if◌then◌else◌}
+use Rattle.std.specs.Prelude.{Option}
+use Rattle.pb_buses.specs.declared.Bus.{Bus}
+use Rattle.pb_buses.specs.declared.Inputs.{Inputs}
+use Rattle.pb_model.specs.declared.Block.{Block}
+use Rattle.pb_still.specs.Eventful.{Moment, next_moment, AreBusy, Run}
+
+pub one_count : (bus : Bus) (tick : ℕ) (before : List (Option Inputs)) (blocks : List Block) (m n : ℕ) →
+    AreBusy bus tick before blocks m → AreBusy bus tick before blocks n → m ≡ n
+one_count bus tick [] [] m n h g = h ∙ sym g
+one_count bus tick [] (block ∷ blocks) m n h g = absurd h
+one_count bus tick (saw ∷ before) [] m n h g = absurd h
+one_count bus tick (saw ∷ before) (block ∷ blocks) m n (inl h) (inl g) = one_count bus tick before blocks m n h.1 g.1
+one_count bus tick (saw ∷ before) (block ∷ blocks) m n (inl h) (inr g) = absurd (g.0 h.0)
+one_count bus tick (saw ∷ before) (block ∷ blocks) m n (inr h) (inl g) = absurd (h.0 g.0)
+one_count bus tick (saw ∷ before) (block ∷ blocks) m n (inr h) (inr g) =
+    h.1.1 ∙ (ap (λ k. k + 1) (one_count bus tick before blocks h.1.0 g.1.0 h.1.2 g.1.2) ∙ sym g.1.1)
+
+pub one_run : (n : ℕ) (moment : Moment) (a b c d : ℕ) → Run n moment a b → Run n moment c d → (a ≡ c) × (b ≡ d)
+one_run zero moment a b c d h g = (h.0 ∙ sym g.0, h.1 ∙ sym g.1)
+one_run (suc n) moment a b c d h g =
+    let here : h.0 ≡ g.0 =
+    one_count moment.box.stands.bus moment.box.stands.tick moment.before moment.box.stands.blocks h.0 g.0 h.3 g.3 in
+    let rest : (h.1 ≡ g.1) × (h.2 ≡ g.2) = one_run n (next_moment moment) h.1 h.2 g.1 g.2 h.4 g.4 in (
+      h.5
+          ∙ (ap (λ k. (if moment.stood || nat_lt 0 k then 1 else 0) + h.1) here
+          ∙ (ap (λ k. (if moment.stood || nat_lt 0 g.0 then 1 else 0) + k) rest.0 ∙ sym g.5)),
+      h.6 ∙ (ap (λ k. k + h.2) here ∙ (ap (λ k. g.0 + k) rest.1 ∙ sym g.6)),
+    )

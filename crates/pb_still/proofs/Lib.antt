@@ -1,0 +1,4 @@
+pub mod CountLemmas
+pub mod LevelLemmas
+pub mod PutLemmas
+pub mod StillLemmas

@@ -1,0 +1,4 @@
+pub mod Coasting
+pub mod Current
+pub mod Driving
+pub mod Eventful
