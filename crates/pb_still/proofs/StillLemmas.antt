@@ -69,7 +69,7 @@ all_positions_same bus tick n (block ∷ blocks) h =
     ap (λ (l : List ℤ). l ++ flat_map positions_of (map (coasted_block bus tick n) blocks)) (same_positions bus tick n block h.0.calm)
     ∙ ap (λ (l : List ℤ). positions_of block ++ l) (all_positions_same bus tick n blocks h.1)
 
-bus_stays : (bus : Bus) (tick n : ℕ) (blocks : List Block) (settings : List Bool) → AllByRecursion (IsQuietFor bus tick n) blocks →
+pub bus_stays : (bus : Bus) (tick n : ℕ) (blocks : List Block) (settings : List Bool) → AllByRecursion (IsQuietFor bus tick n) blocks →
     bus_after bus (map (coasted_block bus tick n) blocks) settings ≡ bus_after bus blocks settings
 bus_stays bus tick n blocks settings h =
     ap (λ (l : List Bool). record {

@@ -64,9 +64,16 @@ AreBusy bus tick _ _ busy = ⊥
 abbrev pub Busy : Moment → ℕ → Type 0
 Busy moment busy = AreBusy moment.box.stands.bus moment.box.stands.tick moment.before moment.box.stands.blocks busy
 
+-- one of these blocks is busy, which saw this at the tick before
+abbrev pub IsOneBusy : Bus → ℕ → List (Option Inputs) → List Block → Type 0
+IsOneBusy bus tick (before ∷ others) (block ∷ blocks) =
+    ¬ (IsIdle bus tick before block) ⊎ IsOneBusy bus tick others blocks
+IsOneBusy bus tick _ _ = ⊥
+
 -- A tick is eventful if an event stood at it, or some block is busy. Else nothing happens at it but counting.
 abbrev pub IsEventful : Moment → Type 0
-IsEventful moment = (moment.stood ≡ true) ⊎ ((busy : ℕ) × Busy moment busy × (0 < busy))
+IsEventful moment =
+    (moment.stood ≡ true) ⊎ IsOneBusy moment.box.stands.bus moment.box.stands.tick moment.before moment.box.stands.blocks
 
 pub record IsStill (moment : Moment) : Type 0 where
   pub untouched : moment.stood ≡ false

@@ -1,0 +1,4 @@
+pub mod Advanced
+pub mod Coming
+pub mod Moving
+pub mod Sims

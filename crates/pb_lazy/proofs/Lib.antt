@@ -1,0 +1,5 @@
+pub mod CallLemmas
+pub mod CommandLemmas
+pub mod LazyLemmas
+pub mod ListLemmas
+pub mod MeetLemmas

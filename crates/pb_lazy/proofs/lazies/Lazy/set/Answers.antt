@@ -1,0 +1,10 @@
+use Rattle.std.proofs.Common.{ap, ◌∙◌}
+use Rattle.pb_model.specs.Tick.{kind_of}
+use Rattle.pb_lazy.specs.declared.lazies.Lazy.{Lazy}
+use Rattle.pb_lazy.proofs.LazyLemmas.{kind_stays}
+use Rattle.pb_lazy.proofs.lazies.Lazy.set.Goals as goal
+
+pub set-requires-clause-kind : goal.set-requires-clause-kind
+set-requires-clause-kind g c =
+    ap (λ (l : Lazy). kind_of l.block) c.settle.ensures
+    ∙ (ap (λ (l : Lazy). kind_of l.block) c.catch_up.ensures.left ∙ (kind_stays c.args.tick c.args.self.now ∙ c.requires.kind))
