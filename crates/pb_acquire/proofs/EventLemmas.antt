@@ -199,7 +199,7 @@ left_on id all takes.Done runs = runs
 left_on id all takes.NotYet runs = runs
 left_on id all (takes.Bytes text reader) runs = runs
 
-runs_on : (all : AllAcquisitions) (event : Event) → RunsOn all.running → RunsOn (after_event all event).running
+pub runs_on : (all : AllAcquisitions) (event : Event) → RunsOn all.running → RunsOn (after_event all event).running
 runs_on all (arms layout) runs = armed_on (arm_refusal all layout) layout all runs
 runs_on all (adds row) runs = recorded_on all.running row runs
 runs_on all (ends condition) runs = tt
@@ -216,7 +216,7 @@ left_as_many id all takes.Done = refl
 left_as_many id all takes.NotYet = refl
 left_as_many id all (takes.Bytes text reader) = length-set all.readers (id - 1) (Some reader)
 
-as_many : (all : AllAcquisitions) (event : Event) → length (after_event all event).readers ≡ length all.readers
+pub as_many : (all : AllAcquisitions) (event : Event) → length (after_event all event).readers ≡ length all.readers
 as_many all (arms layout) = armed_as_many (arm_refusal all layout) layout all
 as_many all (adds row) = refl
 as_many all (ends condition) = refl

@@ -17,3 +17,5 @@ pub mod DoneLemmas
 pub mod MuxLemmas
 pub mod MuxedLemmas
 pub mod TableLemmas
+pub mod HistoryLemmas
+pub mod FittingLemmas

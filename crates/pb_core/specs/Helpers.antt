@@ -49,6 +49,11 @@ abbrev pub is_report : Named → Bool
 is_report (names.Changes group) = true
 is_report _ = false
 
+-- what is named is a field or an attribute
+abbrev pub is_value : Named → Bool
+is_value (names.Value slot) = true
+is_value _ = false
+
 -- a block reports a number, or one of some labels
 abbrev pub is_reported : FieldType → Bool
 is_reported types.ReadUint = true

@@ -11,6 +11,7 @@ pub mod Assignments
 pub mod Writing
 pub mod Helpers
 pub mod Answer
+pub mod History
 pub mod Stopping
 pub mod Current
 pub mod Examples

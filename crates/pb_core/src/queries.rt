@@ -11,7 +11,7 @@ ghost use Rattle.pb_core.specs.Naming.{named_by};
 ghost use Rattle.pb_core.specs.Sessions.{IsSession, open_of};
 ghost use Rattle.pb_core.specs.Queries.{named_reply, labels_or_refused};
 ghost use Rattle.pb_core.specs.Answer.{replied, line_answer, asked_of, IsReply};
-ghost use Rattle.pb_core.specs.Helpers.{IsThere, is_report};
+ghost use Rattle.pb_core.specs.Helpers.{IsThere, is_report, is_value};
 
 use crate::captures::{captured_reply, captures_reply, completion_reply, status_reply};
 use crate::cores::Core;
@@ -69,6 +69,23 @@ fn named_answer(core: &Core, named: Named, text: Text) -> Result<Answer, OutOfMe
         OnErr result (IsReply (replied (named_reply core.now.config.settings (stands_of core.now.box) (open_of core.now.sessions) all reports named))) }
 {
     match named {
+        Named::Value(slot) => slot_answer(core, slot, text),
+        other => other_answer(core, other),
+    }
+}
+
+/// The answer to the query of what is named, where that is neither one value nor a report.
+#[inline(never)]
+fn other_answer(core: &Core, named: Named) -> Result<Answer, OutOfMemory>
+    requires there { IsThere named }
+    requires other { is_report named ≡ false }
+    requires value { is_value named ≡ false }
+    ensures ok { (all : AllAcquisitions) (reports : Option Group → List ℕ) → acquire.Agrees core.now.acquisitions all →
+        IfOk result (λ told. told ≡ replied (named_reply core.now.config.settings (stands_of core.now.box) (open_of core.now.sessions) all reports named)) }
+    ensures memory { (all : AllAcquisitions) (reports : Option Group → List ℕ) → acquire.Agrees core.now.acquisitions all →
+        OnErr result (IsReply (replied (named_reply core.now.config.settings (stands_of core.now.box) (open_of core.now.sessions) all reports named))) }
+{
+    match named {
         Named::Identity => Ok(Answer::Reply(value_reply(core.alloc(), b"panda_sim 1.0")?)),
         Named::Sessions => Ok(Answer::Reply(who_reply(
             core.alloc(),
@@ -78,7 +95,7 @@ fn named_answer(core: &Core, named: Named, text: Text) -> Result<Answer, OutOfMe
         Named::Blocks => Ok(Answer::Reply(blocks_reply(core.alloc())?)),
         Named::Positions => Ok(Answer::Reply(positions_reply(core.alloc())?)),
         Named::Captures => Ok(Answer::Reply(captures_reply(core.alloc(), core.settings())?)),
-        Named::Changes(_) => unreachable!(),
+        Named::Changes(_) | Named::Value(_) => unreachable!(),
         Named::Arming | Named::Disarming => Ok(Answer::Error(Refusal::NotReadable)),
         Named::Status => Ok(Answer::Reply(status_reply(core.alloc(), core.acquisitions())?)),
         Named::Captured => Ok(Answer::Reply(captured_reply(core.alloc(), core.acquisitions())?)),
@@ -89,7 +106,6 @@ fn named_answer(core: &Core, named: Named, text: Text) -> Result<Answer, OutOfMe
         Named::Labels(slot) => labels_answer(core, slot),
         Named::Fields(block) => Ok(Answer::Reply(fields_reply(core.alloc(), block)?)),
         Named::Attributes(slot) => Ok(Answer::Reply(attributes_reply(core.alloc(), slot)?)),
-        Named::Value(slot) => slot_answer(core, slot, text),
     }
 }
 

@@ -2,6 +2,7 @@ pub mod Types
 pub mod Catalogue
 pub mod Rows
 pub mod BlockNames
+pub mod Hashing
 pub mod Places
 pub mod Slots
 pub mod Names

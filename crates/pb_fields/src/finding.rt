@@ -11,6 +11,7 @@ ghost use Rattle.pb_fields.specs.Places.{count_of, fields_of, type_of};
 ghost use Rattle.pb_fields.specs.Slots.{IsSlot};
 ghost use Rattle.pb_fields.specs.Types.{attributes_of, attribute_text};
 
+use crate::hashing::NameHasher;
 use crate::slots::Slot;
 use crate::tables::{Field, block_at, field_at};
 use crate::types::{Attribute, attribute_name, attributes};
@@ -22,7 +23,7 @@ use std::alloc::Global;
 /// Finds blocks, fields and attributes by their names. It holds the names of the blocks with their places.
 #[derive(Drop)]
 pub struct Catalog {
-    names: IndexMap<&'static [u8], u8>,
+    names: IndexMap<&'static [u8], u8, NameHasher>,
     ghost placed: { map place_named names.entries ≡ block_places } by { Prim.hlevel props },
 }
 
@@ -106,10 +107,10 @@ impl Catalog {
 }
 
 /// The names of the blocks with their places.
-fn named_blocks(alloc: Global) -> Result<IndexMap<&'static [u8], u8>, OutOfMemory>
+fn named_blocks(alloc: Global) -> Result<IndexMap<&'static [u8], u8, NameHasher>, OutOfMemory>
     ensures { IfOk result (λ names. map place_named names.entries ≡ block_places) }
 {
-    let mut names = IndexMap::with_capacity(alloc, BLOCKS as usize)?;
+    let mut names = IndexMap::with_capacity_and_hasher(alloc, BLOCKS as usize, NameHasher::new())?;
     for block in 0..BLOCKS {
         names.insert(block_at(block).0, block)?;
     }

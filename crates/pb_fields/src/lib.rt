@@ -7,6 +7,7 @@
 
 mod entries;
 mod finding;
+mod hashing;
 mod kinds;
 mod labels;
 mod laws;

@@ -1,5 +1,5 @@
 -- Queries of a field or an attribute, seen in one look.
-use Rattle.std.proofs.Common.{◌≡◌, ℕ, ◌<◌, true, List, [], ◌∷◌, ◌++◌, length, take, drop, position, Option, Some, None, IfSome, refl, ap, ◌∙◌, arith, length-append}
+use Rattle.std.proofs.Common.{◌≡◌, ℕ, ◌<◌, ◌≤◌, true, List, [], ◌∷◌, ◌++◌, length, take, drop, position, Option, Some, None, IfSome, refl, ap, ◌∙◌, arith, length-append}
 use Rattle.std.specs.Borrow.{Bor}
 use Rattle.std.specs.List.{list_all}
 use Rattle.std.specs.Option.{option_and_then}
@@ -39,6 +39,7 @@ pub record IsQueried (line target : List ℕ) : Type 0 where
   pub said : said_in line ≡ Query target
   pub closed : opening_in line ≡ None
   pub text : IsText line
+  pub short : length line ≤ 4096
 
 pub is_queried : (line target : List ℕ) → line ≡ target ++ 63 ∷ [] → length target < 4096 → is_within 2 3 (names_in target) ≡ true → IsQueried line target
 is_queried line target e short names =
@@ -50,6 +51,7 @@ is_queried line target e short names =
       said = sound_said line sound ∙ says_saying line (Query target) ((target_iff target).1 is, e);
       closed = ap opening_in e ∙ no_opening target bytes;
       text = printable_text line all;
+      short = sound.short;
     }
 
 -- with its newline it is a command

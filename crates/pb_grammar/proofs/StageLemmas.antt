@@ -254,7 +254,7 @@ open_next stages.First all h w = h
 open_next (stages.Body unknown scan) all h w = h
 open_next (stages.Whole fault) all h w = absurd (w tt)
 
-end_whole : (stage : Stage) (all : List ℕ) → IsEnd stage all → IsWhole all
+pub end_whole : (stage : Stage) (all : List ℕ) → IsEnd stage all → IsWhole all
 end_whole stages.First all h = absurd h
 end_whole (stages.Body unknown scan) all h = absurd h
 end_whole (stages.Whole fault) all h = h.0

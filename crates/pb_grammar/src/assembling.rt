@@ -1,5 +1,6 @@
 ghost use Rattle.std.specs.Prelude.{◌≡◌, ◌≤◌, ◌+◌, ◌++◌, ◌∷◌, [], length, take};
 
+use crate::queries::queried;
 use crate::scanning::{LONGEST, LONGEST_BODY};
 use crate::stages::{Stage, next_stage, stage_fault};
 use pb_words::{OutOfMemory, Refusal};
@@ -29,10 +30,11 @@ impl Model for Assembler {
 }
 
 impl Assembler {
-    ghost use Rattle.std.specs.Prelude.{◌≡◌, ◌≤◌, ◌+◌, ◌++◌, ◌∷◌, [], List, ℕ, IsTrue, IfOk, MatchResult, ◌↔◌, length, take};
+    ghost use Rattle.std.specs.Prelude.{◌≡◌, ◌≤◌, ◌+◌, ◌++◌, ◌∷◌, [], List, ℕ, None, IsTrue, IfOk, MatchResult, ◌↔◌, length, take};
     ghost use Rattle.pb_grammar.specs.Grammar.{command_of, Bad, IsText};
     ghost use Rattle.pb_grammar.specs.Streams.{IsWhole, is_whole, with_line, left_waiting};
     ghost use Rattle.pb_grammar.specs.Feeding.{Fed, Completed, HasWhole, IsKnown, begun_at, nothing, room};
+    ghost use Rattle.pb_grammar.specs.declared.stages.Stage.TheVariants as stages;
 
     /// An assembler that was fed nothing. It takes all the memory that it needs.
     pub fn new(alloc: Global) -> Result<Assembler, OutOfMemory>
@@ -71,6 +73,10 @@ impl Assembler {
         ensures fed { (seen : List ℕ) → Fed self.old seen → Fed self.new (left_waiting seen line.now) }
         ensures ended { IsTrue result ↔ HasWhole self.new }
     {
+        self.begin();
+        if self.keep_query(line) {
+            return true;
+        }
         self.feed_text(line);
         self.feed(b'\n')
     }
@@ -96,12 +102,47 @@ impl Assembler {
         self.stage = Stage::First;
     }
 
+    /// Keeps a line and its newline, where it is a query that one look shows and nothing was fed before it.
+    fn keep_query(&mut self, line: &[u8]) -> bool
+        ensures first { IsTrue result → self.old ≡ nothing }
+        ensures whole { IsTrue result → Completed self.new (line.now ++ 10 ∷ []) }
+        ensures same { ¬ (IsTrue result) → self.new ≡ self.old }
+    {
+        if !self.is_new() {
+            return false;
+        }
+        match queried(line) {
+            Some(_) => {
+                self.keep_whole(line);
+                true
+            }
+            None => false,
+        }
+    }
+
+    /// Keeps a line and its newline as a command that isn't refused.
+    fn keep_whole(&mut self, line: &[u8])
+        requires new { self.old ≡ nothing }
+        requires short { length line.now ≤ 4096 }
+        ensures { self.new ≡ record { bytes = take room (line.now ++ 10 ∷ []); stage = stages.Whole None } }
+    {
+        self.keep_all(line);
+        self.keep(b'\n');
+        self.stage = Stage::Whole(None);
+    }
+
+    /// Whether nothing was fed.
+    fn is_new(&self) -> bool
+        ensures { IsTrue result → self.now ≡ nothing }
+    {
+        self.used == 0 && matches!(self.stage, Stage::First)
+    }
+
     /// Feeds the text of a line: at once where it is kept whole and nothing is counted, else byte by byte.
     fn feed_text(&mut self, text: &[u8])
         requires { IsText text.now }
         ensures { (seen : List ℕ) → Fed self.old seen → Fed self.new (seen ++ text.now) }
     {
-        self.begin();
         match self.stage {
             Stage::First if text.len() < ROOM - self.used => self.keep_all(text),
             _ => self.feed_each(text),

@@ -1,4 +1,4 @@
-ghost use Rattle.std.specs.Prelude.{◌≡◌, ◌∷◌, ◌++◌, [], None, IfSome};
+ghost use Rattle.std.specs.Prelude.{◌≡◌, ◌≤◌, ◌∷◌, ◌++◌, [], length, None, IfSome};
 ghost use Rattle.pb_grammar.specs.Grammar.{IsText, Query, command_of, opening_in, said_in};
 
 use crate::scanning::LONGEST;
@@ -10,6 +10,7 @@ pub(crate) fn queried(text: &[u8]) -> Option<&[u8]>
     ensures said { IfSome result (λ target. said_in text.now ≡ Query target.now) }
     ensures closed { IfSome result (λ target. opening_in text.now ≡ None) }
     ensures text { IfSome result (λ target. IsText text.now) }
+    ensures short { IfSome result (λ target. length text.now ≤ 4096) }
 {
     let Some(target) = before_last(text, b'?') else {
         return None;

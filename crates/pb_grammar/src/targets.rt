@@ -2,6 +2,17 @@ ghost use Rattle.std.specs.Prelude.{◌≡◌, ℕ, List, true, ◌↔◌};
 ghost use Rattle.pb_grammar.specs.Targets.{is_name_byte, Target, WritesTarget, IsTargetText};
 ghost use Rattle.pb_grammar.specs.Grammar.{is_target, is_within, names_in};
 
+/// By its number each byte that can stand in a name, and a point for any other.
+static NAME_BYTES: [u8; 256] = *b"\
+    ................................\
+    ................0123456789......\
+    .ABCDEFGHIJKLMNOPQRSTUVWXYZ...._\
+    .abcdefghijklmnopqrstuvwxyz.....\
+    ................................\
+    ................................\
+    ................................\
+    ................................";
+
 /// Whether the text is a target: a field or an attribute, as `LUT1.INPA.DELAY`, all fields of a block or
 /// all attributes of a field, as `LUT1.*`, or `*` and one to four names, as `*ENUMS.LUT1.INPA`.
 #[tactic(auto, unfolding(crate::specs::Grammar::is_target))]
@@ -46,10 +57,11 @@ pub(crate) fn names_in(text: &[u8]) -> usize
     if empty { 0 } else { count }
 }
 
+/// Whether the byte is a letter, a digit or `_`.
 fn is_name_byte(b: u8) -> bool
     ensures { result ≡ is_name_byte b }
 {
-    b.is_ascii_alphanumeric() || b == b'_'
+    NAME_BYTES[b as usize] != b'.'
 }
 
 /// A text is a target exactly where the test is true of it.

@@ -7,6 +7,7 @@ pub mod ScriptLaws
 pub mod ReadSoFar
 pub mod AddedLines
 pub mod ValueLemmas
+pub mod DigitLemmas
 pub mod FedLines
 pub mod PendingLemmas
 pub mod ToldLemmas

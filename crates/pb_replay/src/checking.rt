@@ -10,12 +10,13 @@ ghost use Rattle.pb_replay.specs.Script.{Level};
 ghost use Rattle.pb_replay.specs.Forms.{deed_written, IsWritten};
 ghost use Rattle.pb_replay.specs.Lines.{line_of, ReadsLine, ReadsTimed, ReadsDeed, ReadsSession};
 
+use crate::digits::read_digits;
 use crate::forms::{Form, Written};
 use crate::lines::{ReadDeed, ReadLine};
 use crate::places::Place;
 use crate::reading::read_form;
 use pb_stim::Cause;
-use pb_words::{read_i32, read_tick, read_uint};
+use pb_words::read_i32;
 
 /// The longest script, in bytes: 16 MiB.
 pub(crate) const LONGEST: usize = 16_777_216;
@@ -109,7 +110,7 @@ fn read_timed<'a>(last: u64, tick: &[u8], written: Written<'a>) -> Result<ReadLi
     requires written { IsWritten written }
     ensures { ReadsTimed last (value_of tick.now) (deed_written written.entry) result }
 {
-    let Ok(tick) = read_tick(tick) else {
+    let Ok(tick) = read_digits(tick) else {
         return Err(Cause::TickOutOfRange);
     };
     if tick < last {
@@ -186,8 +187,8 @@ fn read_session(digits: &[u8]) -> Result<u32, Cause>
     requires { is_uint digits.now ≡ true }
     ensures { ReadsSession (value_of digits.now) result }
 {
-    match read_uint(digits, 8) {
-        Ok(session) if session >= 1 => Ok(session as u32),
+    match read_digits(digits) {
+        Ok(session) if session >= 1 && session <= 8 => Ok(session as u32),
         _ => Err(Cause::SessionOutOfRange),
     }
 }

@@ -12,14 +12,13 @@ ghost use Rattle.pb_replay.specs.Plays.{Plays};
 ghost use Rattle.pb_replay.specs.Pending.{PlaysOn};
 ghost use Rattle.pb_replay.specs.Waiting.{AreFed, kept_of};
 
-use crate::feeding::{text_of, whole_event};
+use crate::feeding::put_command;
 use crate::played::Played;
 use crate::players::Player;
 use crate::sections::Port;
 use pb_core::Event;
 use pb_ports::Sink;
-use pb_words::{OutOfMemory, Steps, Text};
-use std::mem;
+use pb_words::{OutOfMemory, Steps};
 use std::sync::ledger::Ledger;
 
 impl Player {
@@ -127,14 +126,10 @@ impl Player {
         ensures cause { result ≡ Played.WriteFault → Rose (K.faults output.old) (K.faults output.new) }
         ensures count { K.faults output.old ≤ K.faults output.new }
     {
-        let text = mem::replace(&mut self.text, Text::new(self.alloc));
-        let event = match whole_event(&self.assemblers, session, text) {
-            Ok(event) => event,
-            Err(_) => return Played::OutOfMemory,
-        };
-        let played = self.tell(Port::Control, session, &event, output, steps);
-        self.text = text_of(event, self.alloc);
-        played
+        match put_command(&self.assemblers, session, &mut self.event, self.alloc) {
+            Ok(()) => self.tell(Port::Control, session, output, steps),
+            Err(_) => Played::OutOfMemory,
+        }
     }
 
     /// A control session closes, and forgets what it has sent of a command.

@@ -1,7 +1,8 @@
-ghost use Rattle.std.specs.Prelude.{◌≡◌, ℕ, List, IfOk, Some};
+ghost use Rattle.std.specs.Prelude.{◌≡◌, ℕ, List, OnOk, Some};
 ghost use Rattle.pb_grammar.specs.Feeding.{Completed, HasWhole};
 ghost use Rattle.pb_core.specs.Answer.{CanHappen};
 ghost use Rattle.pb_core.specs.Sessions.{IsSession};
+ghost use Rattle.pb_core.specs.declared.Event.TheVariants as events;
 ghost use Rattle.pb_replay.specs.Events.{sent};
 ghost use Rattle.pb_replay.specs.Output.{receiver_of};
 ghost use Rattle.pb_replay.specs.Waiting.{kept_of};
@@ -12,39 +13,50 @@ use pb_core::Event;
 use pb_words::{OutOfMemory, Text};
 use std::alloc::Global;
 
-/// The event of the command that is whole, in this text where it has one.
-pub(crate) fn whole_event(
-    assemblers: &Assemblers,
-    session: u32,
-    mut text: Text,
-) -> Result<Event, OutOfMemory>
-    requires whole { HasWhole (kept_of assemblers.now session) }
-    requires session { IsSession session }
-    ensures sent { (bytes : List ℕ) → Completed (kept_of assemblers.now session) bytes → IfOk result (λ event. event ≡ sent session bytes) }
-    ensures told { IfOk result (λ event. receiver_of event ≡ Some (record { port = Port.Control; session = session })) }
-    ensures can { IfOk result CanHappen }
-{
-    match assemblers.whole(session) {
-        Ok(bytes) => {
-            text.clear();
-            text.append(bytes)?;
-            Ok(Event::Line { id: session, text })
-        }
-        Err(refusal) => Ok(Event::Bad {
-            id: session,
-            refusal,
-        }),
+/// An event before the first: a command without bytes.
+pub(crate) fn no_command(alloc: Global) -> Event {
+    Event::Line {
+        id: 1,
+        text: Text::new(alloc),
     }
 }
 
-/// A text for the next event: that of this one, or an empty one. What it has is overwritten; its memory is kept.
-pub(crate) fn text_of(event: Event, alloc: Global) -> Text {
-    match event {
-        Event::Line { id: _, text }
-        | Event::OpenData {
-            id: _,
-            options: text,
-        } => text,
-        _ => Text::new(alloc),
+/// Makes the event that of the command that is whole.
+pub(crate) fn put_command(
+    assemblers: &Assemblers,
+    session: u32,
+    event: &mut Event,
+    alloc: Global,
+) -> Result<(), OutOfMemory>
+    requires whole { HasWhole (kept_of assemblers.now session) }
+    requires session { IsSession session }
+    ensures sent { (bytes : List ℕ) → Completed (kept_of assemblers.now session) bytes → OnOk result (event.new ≡ sent session bytes) }
+    ensures told { OnOk result (receiver_of event.new ≡ Some (record { port = Port.Control; session = session })) }
+    ensures can { OnOk result (CanHappen event.new) }
+{
+    match assemblers.whole(session) {
+        Ok(bytes) => put_line(session, bytes, event, alloc),
+        Err(refusal) => {
+            *event = Event::Bad {
+                id: session,
+                refusal,
+            };
+            Ok(())
+        }
     }
+}
+
+/// Makes the event that of a command of these bytes. If it was one, its text keeps its memory.
+fn put_line(session: u32, bytes: &[u8], event: &mut Event, alloc: Global) -> Result<(), OutOfMemory>
+    ensures { OnOk result (event.new ≡ events.Line session bytes.now) }
+{
+    if let Event::Line { id, text } = event {
+        *id = session;
+        text.clear();
+        return text.append(bytes);
+    }
+    let mut text = Text::new(alloc);
+    text.append(bytes)?;
+    *event = Event::Line { id: session, text };
+    Ok(())
 }

@@ -10,7 +10,7 @@ ghost use Rattle.pb_replay.specs.Pending.{PlaysOn, IsQuiet, IsAnswered, is_at_ta
 use crate::played::Played;
 use crate::players::Player;
 use crate::sections::{Port, write_section};
-use pb_core::{Answer, Event, Why};
+use pb_core::{Answer, Core, Event, Why};
 use pb_ports::Sink;
 use pb_words::{OutOfMemory, Steps};
 use std::sync::ledger::Ledger;
@@ -61,27 +61,26 @@ impl Player {
         }
     }
 
-    /// This happens, and a session is told the answer.
+    /// The event happens that is kept, and a session is told the answer.
     pub(crate) fn tell<K: Sink, L: Ledger>(
         &mut self,
         port: Port,
         session: u32,
-        event: &Event,
         output: &mut K,
         steps: &mut Steps<L>,
     ) -> Played
-        requires can { CanHappen event.now }
+        requires can { CanHappen self.old.event }
         requires session { IsSession session }
-        requires told { receiver_of event.now ≡ Some (record { port = port; session = session }) }
+        requires told { receiver_of self.old.event ≡ Some (record { port = port; session = session }) }
         ensures plays { (state : CoreState) → Agrees self.old.core state →
-            PlaysOn (written state event.now) result self.old.pending (K.held output.old) self.new.pending (K.held output.new) }
-        ensures core { result ≡ Played.Ok → (state : CoreState) → Agrees self.old.core state → Agrees self.new.core (after state event.now) }
+            PlaysOn (written state self.old.event) result self.old.pending (K.held output.old) self.new.pending (K.held output.new) }
+        ensures core { result ≡ Played.Ok → (state : CoreState) → Agrees self.old.core state → Agrees self.new.core (after state self.old.event) }
         ensures assemblers { self.new.assemblers ≡ self.old.assemblers }
         ensures cause { result ≡ Played.WriteFault → Rose (K.faults output.old) (K.faults output.new) }
         ensures count { K.faults output.old ≤ K.faults output.new }
     {
         let tick = self.core.now();
-        match self.answer(event, steps) {
+        match answer(&mut self.core, &self.event, steps) {
             Ok(answer) => self.hand_out(tick, port, session, answer, output),
             Err(_) => Played::OutOfMemory,
         }
@@ -114,22 +113,20 @@ impl Player {
         self.core.give_back(answer);
         played
     }
+}
 
-    /// What the core answers to an event of which a session is told.
-    pub(crate) fn answer<L: Ledger>(
-        &mut self,
-        event: &Event,
-        steps: &mut Steps<L>,
-    ) -> Result<Answer, OutOfMemory>
-        requires can { CanHappen event.now }
-        requires told { IsAnswered event.now }
-        ensures ok { (state : CoreState) → Agrees self.old.core state → IfOk result (λ told. told ≡ answer state event.now) }
-        ensures core { (state : CoreState) → Agrees self.old.core state → OnOk result (Agrees self.new.core (after state event.now)) }
-        ensures assemblers { self.new.assemblers ≡ self.old.assemblers }
-        ensures pending { self.new.pending ≡ self.old.pending }
-    {
-        self.core.apply(event, steps)
-    }
+/// What the core answers to an event of which a session is told.
+pub(crate) fn answer<L: Ledger>(
+    core: &mut Core,
+    event: &Event,
+    steps: &mut Steps<L>,
+) -> Result<Answer, OutOfMemory>
+    requires can { CanHappen event.now }
+    requires told { IsAnswered event.now }
+    ensures ok { (state : CoreState) → Agrees core.old state → IfOk result (λ told. told ≡ answer state event.now) }
+    ensures core { (state : CoreState) → Agrees core.old state → OnOk result (Agrees core.new (after state event.now)) }
+{
+    core.apply(event, steps)
 }
 
 /// Whether an advance came to its target.

@@ -6,6 +6,7 @@ mod assemblers;
 mod checking;
 mod controls;
 mod cuts;
+mod digits;
 mod drafts;
 mod examples;
 mod faults;

@@ -11,24 +11,25 @@ ghost use Rattle.pb_replay.specs.Pending.{PlaysOn};
 ghost use Rattle.pb_replay.specs.Waiting.{AreFed};
 
 use crate::assemblers::Assemblers;
+use crate::feeding::no_command;
 use crate::played::Played;
 use crate::scripts::{Act, Span, Step};
 use crate::sections::write_pending;
-use pb_core::Core;
+use pb_core::{Core, Event};
 use pb_ports::Sink;
 use pb_stim::Stimulus;
 use pb_words::{OutOfMemory, Steps, Text};
 use std::alloc::Global;
 use std::sync::ledger::Ledger;
 
-/// What stands while a script is played. The two texts keep their memory from event to event.
+/// What stands while a script is played. The texts keep their memory from line to line.
 #[derive(Drop)]
 pub(crate) struct Player {
     pub(crate) alloc: Global,
     pub(crate) core: Core,
     pub(crate) assemblers: Assemblers,
-    /// The bytes of the last command or options line.
-    pub(crate) text: Text,
+    /// What a session was told of last: a command, or a reader that opened.
+    pub(crate) event: Event,
     /// The sections that are still to be written.
     pub(crate) pending: Text,
 }
@@ -46,7 +47,7 @@ impl Player {
                 alloc,
                 core,
                 assemblers,
-                text: Text::new(alloc),
+                event: no_command(alloc),
                 pending: Text::new(alloc),
             }),
             Err(_) => Err(OutOfMemory),

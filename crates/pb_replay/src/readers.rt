@@ -9,7 +9,7 @@ ghost use Rattle.pb_replay.specs.Events.{events_of, is_piece, takes_of, takes_of
 ghost use Rattle.pb_replay.specs.Output.{written, sections};
 ghost use Rattle.pb_replay.specs.Pending.{PlaysOn};
 
-use crate::feeding::text_of;
+use crate::happening::answer;
 use crate::played::Played;
 use crate::players::Player;
 use crate::sections::{Port, write_section};
@@ -68,18 +68,15 @@ impl Player {
         ensures cause { result ≡ Played.WriteFault → Rose (K.faults output.old) (K.faults output.new) }
         ensures count { K.faults output.old ≤ K.faults output.new }
     {
-        let mut text = mem::replace(&mut self.text, Text::new(self.alloc));
-        text.clear();
+        let mut text = Text::new(self.alloc);
         if text.append(options).is_err() {
             return Played::OutOfMemory;
         }
-        let event = Event::OpenData {
+        self.event = Event::OpenData {
             id: session,
             options: text,
         };
-        let played = self.tell(Port::Data, session, &event, output, steps);
-        self.text = text_of(event, self.alloc);
-        played
+        self.tell(Port::Data, session, output, steps)
     }
 
     /// A data session takes one piece.
@@ -103,13 +100,10 @@ impl Player {
         if !self.advance(tick, steps) {
             return Played::OutOfMemory;
         }
-        self.tell(
-            Port::Data,
-            session,
-            &Event::Take { id: session },
-            output,
-            steps,
-        )
+        let kept = mem::replace(&mut self.event, Event::Take { id: session });
+        let played = self.tell(Port::Data, session, output, steps);
+        self.event = kept;
+        played
     }
 
     /// A data session closes.
@@ -245,7 +239,7 @@ impl Player {
         ensures count { K.faults output.old ≤ K.faults output.new }
     {
         let tick = self.core.now();
-        match self.answer(&Event::Take { id: session }, steps) {
+        match answer(&mut self.core, &Event::Take { id: session }, steps) {
             Ok(answer) => {
                 let played = write_section(
                     tick,

@@ -76,10 +76,40 @@ fn add_section(
     ensures { OnOk result (text.new ≡ text.old ++ section tick port session bytes.now) }
 {
     text.append_number(tick)?;
-    text.append(&receiver(port, session))?;
-    text.append_number(bytes.len() as u64)?;
-    text.append(b"\n")?;
+    add_receiver(port, session, bytes.len(), text)?;
     text.append(bytes)
+}
+
+/// Adds the port and the session of an answer, and how many bytes it has. Most have fewer than ten: then this is one piece.
+fn add_receiver(port: Port, session: u32, len: usize, text: &mut Text) -> Result<(), OutOfMemory>
+    requires { IsSession session }
+    ensures { OnOk result (text.new ≡ text.old ++ port_text port ++ decimal session ++ codes " " ++ decimal len ++ codes "\n") }
+{
+    if len < 10 {
+        return text.append(&receiver_of_few(port, session, len));
+    }
+    text.append(&receiver(port, session))?;
+    text.append_number(len as u64)?;
+    text.append(b"\n")
+}
+
+/// The letter of a port and the number of a session, with a space before and behind each, and fewer than ten bytes.
+#[tactic(auto, using(crate::proofs::HeadLemmas::receiver_of_few_is))]
+fn receiver_of_few(port: Port, session: u32, len: usize) -> [u8; 7]
+    requires session { IsSession session }
+    requires few { len < 10 }
+    ensures { result ≡ port_text port ++ decimal session ++ codes " " ++ decimal len ++ codes "\n" }
+{
+    let number = b'0' + session as u8;
+    [
+        b' ',
+        letter(port),
+        b' ',
+        number,
+        b' ',
+        b'0' + len as u8,
+        b'\n',
+    ]
 }
 
 /// The letter of a port and the number of a session, with a space before and behind each.

@@ -13,8 +13,18 @@ pub fn value_reply(alloc: Global, value: &[u8]) -> Result<Text, OutOfMemory>
     Ok(text)
 }
 
-/// Adds the reply of one value.
+/// Adds the reply of one value. That of one byte, as a level has it, is one piece.
 pub fn put_value(text: &mut Text, value: &[u8]) -> Result<(), OutOfMemory>
+    ensures { OnOk result (text.new ≡ text.old ++ value_reply value.now) }
+{
+    match value {
+        [byte] => text.append(&[b'O', b'K', b' ', b'=', *byte, b'\n']),
+        _ => put_long_value(text, value),
+    }
+}
+
+/// Adds the reply of one value, of any length.
+fn put_long_value(text: &mut Text, value: &[u8]) -> Result<(), OutOfMemory>
     ensures { OnOk result (text.new ≡ text.old ++ value_reply value.now) }
 {
     text.append(b"OK =")?;

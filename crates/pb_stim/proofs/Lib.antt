@@ -1,6 +1,7 @@
 pub mod FormLemmas
 pub mod InputLemmas
 pub mod LineCuts
+pub mod MakingLemmas
 pub mod NumberLemmas
 pub mod ReadLemmas
 pub mod ReadSoFar

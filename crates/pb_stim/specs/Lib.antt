@@ -2,6 +2,7 @@ pub mod Answers
 pub mod Faults
 pub mod Inputs
 pub mod Lines
+pub mod Making
 pub mod Reading
 pub mod Refused
 pub mod Stimulus

@@ -9,6 +9,7 @@ mod cuts;
 mod faults;
 mod forms;
 mod laws;
+mod making;
 mod parsing;
 mod places;
 mod reading;
@@ -16,5 +17,8 @@ mod stimuli;
 
 pub use causes::Cause;
 pub use faults::StimFault;
-pub use laws::{stimuli_are_read_or_refused, stimulus_lines_are_computed};
+pub use laws::{
+    scripts_are_made_by_example, stimuli_are_read_or_refused, stimulus_lines_are_computed,
+};
+pub use making::make;
 pub use stimuli::{Row, Stimulus};

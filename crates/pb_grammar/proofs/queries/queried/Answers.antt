@@ -16,3 +16,6 @@ returns-then-within-clause-closed c = (found c).closed
 
 pub returns-then-within-clause-text : goal.returns-then-within-clause-text
 returns-then-within-clause-text c = (found c).text
+
+pub returns-then-within-clause-short : goal.returns-then-within-clause-short
+returns-then-within-clause-short c = (found c).short

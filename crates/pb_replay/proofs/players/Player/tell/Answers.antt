@@ -5,14 +5,14 @@ use Rattle.pb_replay.proofs.ToldLemmas.{is_answered, written_is, told_plays}
 use Rattle.pb_replay.proofs.players.Player.tell.Goals as goal
 
 pub answer-requires-clause-told : goal.answer-requires-clause-told
-answer-requires-clause-told g c = is_answered c.args.event.now _ c.requires.told
+answer-requires-clause-told g c = is_answered c.args.self.now.event _ c.requires.told
 
 pub returns-in-Ok-clause-plays : goal.returns-in-Ok-clause-plays
 returns-in-Ok-clause-plays g c = λ state h.
-    told_plays _ _ c.hand_out.result c.args.self.now.pending c.answer.new.self.pending c.hand_out.new.self.pending (g.K.Sink.held c.args.output.now) (g.K.Sink.held c.hand_out.new.output)
-    (written_is state c.args.self.now.core c.args.event.now _ c.now-tick.result c.in-Ok.answer (bytes_of c.in-Ok.answer) h c.now-tick.ensures.now c.requires.told (c.in-Ok.ensures.ok state h) refl) c.answer.ensures.pending
+    told_plays _ _ c.hand_out.result c.args.self.now.pending c.args.self.now.pending c.hand_out.new.self.pending (g.K.Sink.held c.args.output.now) (g.K.Sink.held c.hand_out.new.output)
+    (written_is state c.args.self.now.core c.args.self.now.event _ c.now-tick.result c.in-Ok.answer (bytes_of c.in-Ok.answer) h c.now-tick.ensures.now c.requires.told (c.in-Ok.ensures.ok state h) refl) refl
     c.hand_out.ensures.plays
 
 pub returns-in-Ok-clause-core : goal.returns-in-Ok-clause-core
 returns-in-Ok-clause-core g c = λ there state h.
-    subst (λ kept. Agrees kept (after state c.args.event.now)) (sym c.hand_out.ensures.core) (c.in-Ok.ensures.core state h)
+    subst (λ kept. Agrees kept (after state c.args.self.now.event)) (sym c.hand_out.ensures.core) (c.in-Ok.ensures.core state h)

@@ -1,0 +1,12 @@
+pub mod AdvancingLemmas
+pub mod AgreeingLemmas
+pub mod AwakeLemmas
+pub mod CaptureLemmas
+pub mod CommandLemmas
+pub mod DoneLemmas
+pub mod GoingLemmas
+pub mod OpeningLemmas
+pub mod PlaceLemmas
+pub mod ShowLemmas
+pub mod SteppingLemmas
+pub mod TableLemmas

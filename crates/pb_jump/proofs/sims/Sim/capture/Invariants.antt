@@ -1,0 +1,20 @@
+use Rattle.std.proofs.Common.{◌≡◌, ◌-◌, ◌≤◌, false}
+use Rattle.pb_model.specs.Arming.{is_capture_idle}
+use Rattle.pb_still.specs.Eventful.{Moment}
+use Rattle.pb_going.specs.Sims.{Agrees, AreKnown, now_of}
+use Rattle.pb_going.specs.Advanced.{idle_at_end}
+use Rattle.pb_jump.specs.Taking.{Captures}
+use Rattle.pb_jump.proofs.sims.Sim.capture.Given as goal
+
+abbrev pub invariant-loop-self : goal.invariant-loop-self
+invariant-loop-self g l =
+    record {
+      onward : l.self.tick ≤ l.to;
+      few : l.count ≤ l.most;
+      known : AreKnown l.self;
+      idle : is_capture_idle (now_of l.self).blocks ≡ idle_at_end l.completed false;
+      comes : (start : Moment) → Agrees l.fn.self start → Captures start l.self l.count l.completed l.fn.records l.records l.fn.steps l.steps;
+    }
+
+abbrev pub decreases-loop-self : goal.decreases-loop-self
+decreases-loop-self g l = l.to - l.self.tick

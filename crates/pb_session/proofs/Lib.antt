@@ -1,0 +1,9 @@
+pub mod CallLemmas
+pub mod ServingLemmas
+pub mod EndingLemmas
+pub mod LineLemmas
+pub mod TakingLemmas
+pub mod WorkerLemmas
+pub mod CommandLemmas
+pub mod MovingLemmas
+pub mod ReadingLemmas

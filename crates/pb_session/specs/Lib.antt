@@ -1,0 +1,9 @@
+pub mod Calls
+pub mod Controls
+pub mod Serving
+pub mod Options
+pub mod Data
+pub mod Streaming
+pub mod Reading
+pub mod Workers
+pub mod Readings
