@@ -50,9 +50,9 @@ fn go<L: Ledger>(
     to: u64,
 ) -> Result<(), Fail> {
     assert!(rt; to < 1 << 62);
-    let reached = told(steps, core, &Event::Advance { to })?;
+    let reached = told(steps, core, &Event::Advance { to, most: 1 << 62 })?;
     assert_eq!(rt; reached.bytes().len(), 0);
-    let _reached = told(steps, core, &Event::Advance { to })?;
+    let _reached = told(steps, core, &Event::Advance { to, most: 1 << 62 })?;
     Ok(())
 }
 

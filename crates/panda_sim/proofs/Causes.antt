@@ -18,8 +18,8 @@ taken_of bytes read left h spent =
     sym (h.1 ∙ (ap (λ rest. read ++ rest) nothing ∙ append-nil read))
 
 -- a script that was read to its end
-replays_told : (bytes : List ℕ) (given left : Option (List ℕ)) (Wrote : List ℕ → Type 0) → given ≡ Some bytes → Replays given left Wrote → (lines : List Line) × IsScript bytes lines
-replays_told bytes given left Wrote e r =
+replays_told : (bytes : List ℕ) (given left : Option (List ℕ)) (Holds : List Line → Type 0) → given ≡ Some bytes → Replays given left Holds → (lines : List Line) × IsScript bytes lines
+replays_told bytes given left Holds e r =
     let same = taken_of bytes r.bytes left (subst (λ g. Takes g r.bytes left) e r.taken) r.spent in
     (r.lines, subst (λ b. IsScript b r.lines) same r.script)
 
@@ -45,6 +45,7 @@ ends_on_no_script (statuses.Script line cause) bytes given left held now h known
 ends_on_no_script statuses.ReadFault bytes given left held now h known e none = tt
 ends_on_no_script statuses.WriteFault bytes given left held now h known e none = let s = replays_told bytes given left _ e h in none s.0 s.1
 ends_on_no_script statuses.OutOfMemory bytes given left held now h known e none = tt
+ends_on_no_script (statuses.EventLimit tick) bytes given left held now h known e none = let s = replays_told bytes given left _ e h in none s.0 s.1
 
 -- a script where nothing fails
 pub ends_on_script : (status : Status) (bytes : List ℕ) (lines : List Line) (given left held now : Option (List ℕ)) (in_old in_new out_old out_new : ℕ) → Leaves status given left held now → status ≢ statuses.Usage → (status ≡ statuses.ReadFault → Rose in_old in_new) → (status ≡ statuses.WriteFault → Rose out_old out_new) → given ≡ Some bytes → IsScript bytes lines → ¬ (Rose in_old in_new) → ¬ (Rose out_old out_new) → EndsOnScript status
@@ -54,6 +55,7 @@ ends_on_script (statuses.Script line cause) bytes lines given left held now a b 
 ends_on_script statuses.ReadFault bytes lines given left held now a b c d h known r w e s i o = i (r refl)
 ends_on_script statuses.WriteFault bytes lines given left held now a b c d h known r w e s i o = o (w refl)
 ends_on_script statuses.OutOfMemory bytes lines given left held now a b c d h known r w e s i o = tt
+ends_on_script (statuses.EventLimit tick) bytes lines given left held now a b c d h known r w e s i o = tt
 
 -- the first fault of what was read is that of all
 fault_told : (line : ℕ) (cause : Cause) (bytes : List ℕ) (given left : Option (List ℕ)) → given ≡ Some bytes → ReadsNoScript line cause given left → first_fault bytes ≡ Some (line, cause)

@@ -2,3 +2,4 @@ pub mod Causes
 pub mod LongInputs
 pub mod OneWord
 pub mod TakenLemmas
+pub mod Replaying

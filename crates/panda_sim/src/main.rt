@@ -77,6 +77,7 @@ fn code(status: Status) -> u8 {
         Status::ReadFault => 3,
         Status::WriteFault => 4,
         Status::OutOfMemory => 5,
+        Status::EventLimit { .. } => 6,
     }
 }
 
@@ -92,6 +93,10 @@ fn report(rt: &impl Eprint, status: Status) {
         Status::ReadFault => "read fault",
         Status::WriteFault => "write fault",
         Status::OutOfMemory => "out of memory",
+        Status::EventLimit { tick } => {
+            let _ = eprintln!(rt; "event limit at tick {tick}");
+            return;
+        }
     };
     let _ = rt.eprintln(text);
 }

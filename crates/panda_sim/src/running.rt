@@ -3,17 +3,18 @@ ghost use Rattle.pb_ports.specs.Ports.{Rose, Takes, IsSpent};
 ghost use Rattle.pb_stim.specs.declared.Cause.{Cause};
 ghost use Rattle.pb_replay.specs.Script.{Line, IsScript};
 ghost use Rattle.pb_replay.specs.Faults.{first_fault};
-ghost use Rattle.panda_sim.specs.Run.{IsReplay, Leaves, EndsOnNoScript, EndsOnScript, TakesUpToOnePieceMore};
-ghost use Rattle.panda_sim.specs.Replayed.{Replayed};
+ghost use Rattle.panda_sim.specs.Run.{IsReplay, Replays, Leaves, CallsOf, Makes, EndsOnNoScript, EndsOnScript, TakesUpToOnePieceMore};
+ghost use Rattle.panda_sim.specs.Replayed.{HasLines, Replayed, status_of};
 
 use crate::statuses::Status;
 use pb_ports::{Read, Sink, Source};
-use pb_replay::{Played, ScriptFault, kept_scripts_have_their_output, parse, play};
+use pb_replay::{Played, ScriptFault, parse, play};
 use pb_words::{Steps, Text};
 use std::alloc::Global;
 use std::sync::ledger::Ledger;
 
-/// Runs the program on these words: `replay` reads a script and writes the answers to its commands.
+/// Runs the program on these words: `replay` reads a script and writes the answers to its commands. The counter goes up by one
+/// for each block call.
 pub fn run<S: Source, K: Sink, L: Ledger>(
     alloc: Global,
     words: &[Text],
@@ -42,7 +43,11 @@ pub fn run<S: Source, K: Sink, L: Ledger>(
     ensures script { (bytes : List ℕ) → IsReplay words.now → S.left input.old ≡ Some bytes
         → ((lines : List Line) → ¬ (IsScript bytes lines)) → EndsOnNoScript result }
 
-    // A script with no fault counted is played to its end, unless memory runs out.
+    // Without a script there are no block calls. With one there are at most three for each pair of an eventful tick and a block
+    // that is busy at it, and 40 for each line; and at most three for each of the 35 blocks at each eventful tick and each line.
+    ensures calls { Makes result (steps.new ≡ steps.old) (Replays (S.left input.old) (S.left input.new) (CallsOf steps.old steps.new)) }
+
+    // A script with no fault counted is played to its end or its limit, unless memory runs out.
     ensures complete { (bytes : List ℕ) (lines : List Line) → IsReplay words.now → S.left input.old ≡ Some bytes
         → IsScript bytes lines → ¬ (Rose (S.faults input.old) (S.faults input.new)) → ¬ (Rose (K.faults output.old) (K.faults output.new))
         → EndsOnScript result }
@@ -63,6 +68,7 @@ fn run_words<S: Source, K: Sink, L: Ledger>(
     ensures known { result ≢ Status.Usage → IsReplay words.now }
     ensures read_cause { result ≡ Status.ReadFault → Rose (S.faults input.old) (S.faults input.new) }
     ensures write_cause { result ≡ Status.WriteFault → Rose (K.faults output.old) (K.faults output.new) }
+    ensures calls { Makes result (steps.new ≡ steps.old) (Replays (S.left input.old) (S.left input.new) (CallsOf steps.old steps.new)) }
 {
     if !is_replay(words) {
         return Status::Usage;
@@ -125,16 +131,24 @@ fn replay<K: Sink, L: Ledger>(
     steps: &mut Steps<L>,
 ) -> Status
     ensures replayed { Replayed result bytes.now (K.held output.old) (K.held output.new) }
+    ensures calls { Makes result (steps.new ≡ steps.old) (HasLines bytes.now (CallsOf steps.old steps.new)) }
     ensures cause { result ≡ Status.WriteFault → Rose (K.faults output.old) (K.faults output.new) }
 {
-    kept_scripts_have_their_output();
     match parse(alloc, bytes) {
-        Ok(script) => match play(alloc, &script, output, steps) {
-            Played::Ok => Status::Ok,
-            Played::WriteFault => Status::WriteFault,
-            Played::OutOfMemory => Status::OutOfMemory,
-        },
+        Ok(script) => status(play(alloc, &script, output, steps)),
         Err(ScriptFault::Line { line, cause }) => Status::Script { line, cause },
         Err(ScriptFault::OutOfMemory) => Status::OutOfMemory,
+    }
+}
+
+/// How a run ends, by how playing its script does.
+fn status(played: Played) -> Status
+    ensures { result ≡ status_of played }
+{
+    match played {
+        Played::Ok => Status::Ok,
+        Played::WriteFault => Status::WriteFault,
+        Played::OutOfMemory => Status::OutOfMemory,
+        Played::EventLimit { tick } => Status::EventLimit { tick },
     }
 }

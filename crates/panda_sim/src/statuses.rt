@@ -16,4 +16,6 @@ pub enum Status {
     WriteFault,
     /// Memory ran out; the output has the front of what was to be written.
     OutOfMemory,
+    /// This tick is the limit of the script: its 10,000,000th eventful one. The output has what the lines before it give.
+    EventLimit { tick: u64 },
 }

@@ -1,175 +1,85 @@
--- One tick, the ticks that are left, and what commands leave.
-use Rattle.std.proofs.Common.{◌≡◌, ℕ, ℤ, zero, suc, ◌+◌, ◌-◌, ◌<◌, ◌≤◌, max, Bool, true, false, List, take, ◌∷◌, Option, Some, None, Result, Ok, Err, IfOk, IfSome, sym, ap, subst, inr, refl, ◌∙◌, arith}
+-- What commands and advances leave.
+use Rattle.std.proofs.Common.{◌≡◌, ℕ, Bool, true, false, List, ◌∷◌, Option, Some, None, Result, Ok, Err, IfOk, IfSome, refl, sym, ap, subst, ◌∙◌, arith}
 use Rattle.std.specs.Prelude.{if◌then◌else◌}
 use Rattle.pb_words.specs.declared.Refusal.{Refusal}
 use Rattle.pb_words.specs.declared.Refusal.TheVariants as refusals
+use Rattle.pb_words.specs.Refusing.{result_map, result_then}
 use Rattle.pb_fields.specs.declared.Slot.{Slot}
 use Rattle.pb_fields.specs.declared.Attribute.{Attribute}
 use Rattle.pb_fields.specs.declared.Attribute.TheVariants as attributes
 use Rattle.pb_fields.specs.Slots.{IsSlot, attribute_at}
-use Rattle.pb_tables.specs.Computed.{written}
-use Rattle.pb_model.specs.Tables.{table_of}
-use Rattle.pb_buses.specs.Buses.{IsUnchangedAt}
-use Rattle.pb_stim.specs.declared.Row.{Row}
+use Rattle.pb_pcap.specs.declared.Field.{Field}
+use Rattle.pb_tables.specs.Computed.{written, answer_of}
 use Rattle.pb_grammar.specs.Grammar.{Said}
+use Rattle.pb_buses.specs.declared.Condition.{Condition}
+use Rattle.pb_buses.specs.declared.Condition.TheVariants as conditions
 use Rattle.pb_model.specs.declared.Change.{Change}
 use Rattle.pb_model.specs.declared.Change.TheVariants as changes
 use Rattle.pb_model.specs.declared.Block.{Block}
 use Rattle.pb_model.specs.Changes.{IsChange}
-use Rattle.pb_model.specs.Tick.{Standing, Box, IsInputEntry, opening_box, emitted_of}
-use Rattle.pb_model.specs.Tick as model
-use Rattle.pb_model.specs.Kept.{Kept, stands_of}
-use Rattle.pb_model.specs.Kept as boxes
-use Rattle.pb_model.proofs.AgreeLemmas.{change_agrees, table_agrees}
+use Rattle.pb_model.specs.Tick.{Standing}
+use Rattle.pb_model.specs.Kept.{stands_of}
+use Rattle.pb_model.specs.Tables.{table_of}
+use Rattle.pb_still.specs.Eventful.{Moment, moment_after}
+use Rattle.pb_going.specs.Sims.{Going, now_of}
+use Rattle.pb_going.specs.Sims as sims
+use Rattle.pb_jump.specs.Changing.{changed_moment, written_moment}
+use Rattle.pb_going.specs.Advanced.{completion}
 use Rattle.pb_config.specs.Settings.{Settings}
-use Rattle.pb_config.specs.Assigning.{raw_given, target, target_by, assigned, after_by, change_of}
-use Rattle.pb_config.specs.KeptConfig.{numbers_by}
+use Rattle.pb_config.specs.Assigning.{raw_given, target, target_by, assigned, after_by, change_of, told}
+use Rattle.pb_config.specs.KeptConfig.{KeptConfig, numbers_by, with_assignment, with_clearing, with_note}
 use Rattle.pb_config.specs.Numbers.{AgreesWithAssigned}
-use Rattle.pb_config.proofs.NumberLemmas.{one_more_agrees, cleared_agree}
-use Rattle.pb_changes.specs.declared.Group.{Group}
-use Rattle.pb_core.specs.Tick.{stimulated, tick, taken}
-use Rattle.pb_core.specs.Core.{CoreState, ticked, ticks_of_core}
-use Rattle.pb_buses.specs.declared.Emit.{Emit}
-use Rattle.pb_buses.specs.Rules.{is_record}
-use Rattle.pb_acquire.specs.Acquisitions.{AllAcquisitions, room_of}
-use Rattle.pb_acquire.specs.Kept as acquire
 use Rattle.pb_config.specs.Capturing.{without_captures}
-use Rattle.pb_core.specs.Captures.{CaptureDeed, clears, arms, disarms}
-use Rattle.pb_core.specs.Kept.{KeptCore, Agrees}
-use Rattle.pb_core.specs.Current.{IsCurrent, values_at, with_values}
-use Rattle.pb_words.specs.Refusing.{result_map, result_then}
+use Rattle.pb_config.proofs.NumberLemmas.{one_more_agrees, cleared_agree}
+use Rattle.pb_acquire.specs.Acquisitions.{AllAcquisitions, armed, ended, room_of}
+use Rattle.pb_acquire.specs.Kept as acquire
+use Rattle.pb_changes.specs.declared.Group.{Group}
 use Rattle.pb_core.specs.declared.targets.Named.{Named}
+use Rattle.pb_core.specs.Core.{CoreState, moment_of, ticks_of_core}
+use Rattle.pb_core.specs.Kept.{KeptCore, AreKept, box_of, Agrees, Stands}
 use Rattle.pb_core.specs.Naming.{named_by}
 use Rattle.pb_core.specs.Sessions.{open_of}
+use Rattle.pb_core.specs.Captures.{clears, arms, disarms}
 use Rattle.pb_core.specs.Assignments.{Given, given, gives, captures, with_given, with_deed, changed_by, slot_given}
-use Rattle.pb_core.specs.Answer.{left_by, written_by, said_answer, advanced}
-use Rattle.pb_core.specs.Helpers.{kept_changed_by, kept_with_given, kept_given_by, kept_written_by, kept_with_capture, acquisitions_after, IsLeftBy}
+use Rattle.pb_core.specs.Taking.{all_taken, records_of, ended_by, IsTaken}
 use Rattle.pb_core.specs.Writing.{left_to, is_table, table_written, slot_written, named_written, table_write}
+use Rattle.pb_core.specs.Answer.{left_by, written_by, said_answer}
 use Rattle.pb_core.proofs.MarkLemmas.{same_open}
-use Rattle.pb_core.proofs.LevelLemmas.{values_at-front, values_at-later}
-use Rattle.pb_core.proofs.PutLemmas.{values_agree}
-
--- the values that the next tick begins with
-pub levels_later : (rows same : List Row) (place : ℕ) (values : List ℤ) (now : ℕ) → IsCurrent rows place values now → same ≡ rows → values ≡ values_at (take place same) (now + 1)
-levels_later rows same place values now current e =
-    current.levels
-    ∙ (sym (values_at-front rows place now current.coming)
-    ∙ (values_at-later (take place rows) now (now + 1) (omega arith) current.past
-    ∙ ap (λ all. values_at (take place all) (now + 1)) (sym e)))
-
--- the ticks to come after one
-pub advanced_more : (core : CoreState) (to : ℕ) → core.box.stands.tick < to → advanced (ticked core) to ≡ advanced core to
-advanced_more core to h =
-    let left : to - core.box.stands.tick ≡ suc (to - (core.box.stands.tick + 1)) = omega arith in
-    sym (ap (λ n. ticks_of_core n core) left)
-
--- no tick is left
-pub advanced_all : (core : CoreState) (to : ℕ) → to ≤ core.box.stands.tick → advanced core to ≡ core
-advanced_all core to h =
-    let left : to - core.box.stands.tick ≡ 0 = omega arith in
-    ap (λ n. ticks_of_core n core) left
-
--- so many ticks on
-ticks_on : (n : ℕ) (core : CoreState) → (ticks_of_core n core).box.stands.tick ≡ core.box.stands.tick + n
-ticks_on zero core = omega arith
-ticks_on (suc n) core = omega (arith, ticks_on n (ticked core))
-
--- where an advance leads
-pub advanced_to : (core : CoreState) (to : ℕ) → (advanced core to).box.stands.tick ≡ max core.box.stands.tick to
-advanced_to core to = omega (arith, ticks_on (to - core.box.stands.tick) core)
+use Rattle.pb_core.proofs.RunLemmas.{stood_at, touched_run, stands_same, moment_then, ticks_last, taken_then, taken_parts, completion_taken}
 
 -- the tick of a core is kept
-pub tick_is : (kept : KeptCore) (core : CoreState) → Agrees kept core → kept.box.tick ≡ core.box.stands.tick
-tick_is kept core h = ap (λ (s : Standing). s.tick) h.box.stands
+pub tick_is : (kept : KeptCore) (core : CoreState) → Agrees kept core → kept.sim.tick ≡ core.box.stands.tick
+tick_is kept core h = ap (λ (s : Standing). s.tick) h.run.box.stands
 
--- What is kept after some ticks is that of a core which the ticks up to its own lead to.
-pub record Comes (kept : KeptCore) (core : CoreState) : Type 0 where
-  pub agrees : Agrees kept (advanced core kept.box.tick)
-  pub from_now : core.box.stands.tick ≤ kept.box.tick
+-- Advances.
 
-pub comes_at_first : (kept : KeptCore) (core : CoreState) → Agrees kept core → Comes kept core
-comes_at_first kept core h =
-    let at : kept.box.tick ≡ core.box.stands.tick = tick_is kept core h in
+-- what is kept after some ticks is that of the core after them
+pub advanced_agrees : (kept next : KeptCore) (core : CoreState) (n : ℕ) (completed : Option Condition) (acquired : acquire.Kept) →
+    next.config ≡ kept.config → next.sessions ≡ kept.sessions →
+    sims.Agrees next.sim (moment_after n (moment_of core)) →
+    IsTaken (moment_of core) n completed core.acquisitions acquired →
+    ((all : AllAcquisitions) → acquire.Agrees acquired all → acquire.Agrees next.acquisitions (ended_by completed all)) →
+    Agrees kept core → Agrees next (ticks_of_core n core)
+advanced_agrees kept next core n completed acquired config sessions run t ends h =
+    let last = ticks_last n core in
+    let all : (ticks_of_core n core).acquisitions ≡ ended_by completed (all_taken (records_of t.rows) core.acquisitions) =
+    taken_then n core
+    ∙ (ap (λ emitted. all_taken emitted core.acquisitions) t.handed
+    ∙ (taken_parts (records_of t.rows) (completion completed) core.acquisitions
+    ∙ completion_taken completed (all_taken (records_of t.rows) core.acquisitions))) in
     record {
-      agrees = subst (λ state. Agrees kept state) (sym (advanced_all core kept.box.tick (omega (arith, at)))) h;
-      from_now = omega (arith, at);
+      settings = ap (λ (c : KeptConfig). c.settings) config ∙ (h.settings ∙ sym last.settings);
+      assigned =
+          subst (λ (c : KeptConfig). AgreesWithAssigned c.numbers (ticks_of_core n core).assigned) (sym config)
+          (subst (λ slots. AgreesWithAssigned kept.config.numbers slots) (sym last.assigned) h.assigned);
+      run = subst (λ m. sims.Agrees next.sim m) (sym (moment_then n core)) run;
+      sessions =
+          subst (λ s. AreKept s (ticks_of_core n core).sessions) (sym sessions)
+          (subst (λ s. AreKept kept.sessions s) (sym last.sessions) h.sessions);
+      acquisitions = subst (λ a. acquire.Agrees next.acquisitions a) (sym all) (ends (all_taken (records_of t.rows) core.acquisitions) t.agrees);
     }
-
--- one tick more at the end
-ticked_last : (n : ℕ) (core : CoreState) → ticks_of_core (suc n) core ≡ ticked (ticks_of_core n core)
-ticked_last zero core = refl
-ticked_last (suc n) core = ticked_last n (ticked core)
-
-pub comes_more : (kept next : KeptCore) (core : CoreState) → next.box.tick ≡ kept.box.tick + 1 →
-    ((now : CoreState) → Agrees kept now → Agrees next (ticked now)) → Comes kept core → Comes next core
-comes_more kept next core at step c =
-    let left : next.box.tick - core.box.stands.tick ≡ suc (kept.box.tick - core.box.stands.tick) = omega (arith, at, c.from_now) in
-    record {
-      agrees =
-          subst (λ state. Agrees next state)
-          (sym (ap (λ n. ticks_of_core n core) left ∙ ticked_last (kept.box.tick - core.box.stands.tick) core))
-          (step (advanced core kept.box.tick) c.agrees);
-      from_now = omega (arith, at, c.from_now);
-    }
-
--- the same core with more room in memory
-pub comes_same : (kept next : KeptCore) (core : CoreState) → next.box ≡ kept.box →
-    ((now : CoreState) → Agrees kept now → Agrees next now) → Comes kept core → Comes next core
-comes_same kept next core same more c =
-    let at : next.box.tick ≡ kept.box.tick = ap (λ (k : Kept). k.tick) same in
-    record {
-      agrees = subst (λ n. Agrees next (advanced core n)) (sym at) (more (advanced core kept.box.tick) c.agrees);
-      from_now = omega (arith, at, c.from_now);
-    }
-
--- the target is reached
-pub comes_all : (kept : KeptCore) (to : ℕ) (core : CoreState) → to ≤ kept.box.tick → Agrees kept (advanced core kept.box.tick) →
-    core.box.stands.tick ≤ kept.box.tick → kept.box.tick ≤ max core.box.stands.tick to → Agrees kept (advanced core to)
-comes_all kept to core none h from most =
-    let left : kept.box.tick - core.box.stands.tick ≡ to - core.box.stands.tick = omega (arith, none, from, most) in
-    subst (λ n. Agrees kept (ticks_of_core n core)) left h
-
--- the tick emits a record by the core, where it does by what is kept
-pub emits_there : (kept : KeptCore) (core : CoreState) → Agrees kept core → is_record (emitted_of (stands_of kept.box)) ≡ true →
-    is_record (emitted_of core.box.stands) ≡ true
-emits_there kept core h e = ap (λ (s : Standing). is_record (emitted_of s)) (sym h.box.stands) ∙ e
-
--- One tick.
-pub stepped : (kept : KeptCore) (core : CoreState) (rows : List Row) (values : List ℤ) (box next : Kept) (emit : Emit) (acquired : acquire.Kept) →
-    box.tick ≡ kept.box.tick + 1 → rows ≡ kept.rows → values ≡ values_at rows box.tick →
-    ((b : Box) → boxes.Agrees kept.box b → boxes.Agrees box (model.tick b)) →
-    ((b : Box) → boxes.Agrees kept.box b → (entry : ℕ) → IsInputEntry entry → IsUnchangedAt box.buses entry (kept.box.tick + 1)) →
-    next ≡ with_values values box → emit ≡ emitted_of (stands_of kept.box) →
-    ((all : AllAcquisitions) → acquire.Agrees kept.acquisitions all → acquire.Agrees acquired (taken emit all)) → Agrees kept core →
-    Agrees (record kept { box = next; acquisitions = acquired }) (ticked core)
-stepped kept core rows values box next emit acquired at same levels agrees once is emits takes h =
-    let shown : boxes.Agrees (with_values values box) (stimulated rows (model.tick core.box)) =
-    values_agree rows values box (model.tick core.box) levels (agrees core.box h.box)
-    (λ e i. subst (λ n. IsUnchangedAt box.buses e n) (sym at) (once core.box h.box e i)) in
-    record {
-      rows = h.rows;
-      settings = h.settings;
-      assigned = h.assigned;
-      box =
-          subst (λ k. boxes.Agrees k (tick core.rows core.box)) (sym is)
-          (subst (λ r. boxes.Agrees (with_values values box) (stimulated r (model.tick core.box))) (same ∙ h.rows) shown);
-      sessions = h.sessions;
-      acquisitions =
-          subst (λ e. acquire.Agrees acquired (taken e core.acquisitions)) (emits ∙ ap emitted_of h.box.stands)
-          (takes core.acquisitions h.acquisitions);
-    }
-
--- At first.
-pub opened : (rows : List Row) (values : List ℤ) (box : Kept) → box.tick ≡ 0 → values ≡ values_at rows 0 → boxes.Agrees box opening_box →
-    boxes.Agrees (with_values values box) (stimulated rows opening_box)
-opened rows values box at levels h =
-    values_agree rows values box opening_box (levels ∙ ap (values_at rows) (sym at)) h (λ e i. inr at)
 
 -- Commands.
-
-changed_agrees : (change : Option Change) (kept : Kept) (box : Box) → boxes.Agrees kept box → boxes.Agrees (kept_changed_by change kept) (changed_by change box)
-changed_agrees None kept box h = h
-changed_agrees (Some change) kept box h = change_agrees kept box change h
 
 -- the slot that an assignment sets is in the catalogue
 target_by_there : (o : Option Attribute) (slot : Slot) → IsSlot slot → IsSlot (target_by o slot)
@@ -178,133 +88,203 @@ target_by_there (Some attributes.TimeRaw) slot s =
     record { in_blocks = s.in_blocks; from_one = s.from_one; in_count = s.in_count; in_fields = s.in_fields; in_attributes = omega arith }
 target_by_there (Some _) slot s = s
 
+-- an accepted table write counts as an assignment
+abbrev pub noted_if : Result (List ℕ) Refusal → KeptConfig → Slot → KeptConfig
+noted_if (Ok words) config slot = with_note config slot
+noted_if (Err refusal) config slot = config
+
 -- a value that was given
 
-given_agrees : (kept : KeptCore) (core : CoreState) (new : Given) → raw_given kept.config.settings new.slot new.text ≡ Ok new.raw → IsSlot new.slot →
-    Agrees kept core → Agrees (kept_with_given kept new) (with_given core new)
-given_agrees kept core new e s h =
+-- what a change, if there is one, leaves of the run
+abbrev pub RunsBy : Result (Option Change) Refusal → Going → Going → Type 0
+RunsBy (Ok (Some change)) old new = (moment : Moment) → sims.Agrees old moment → sims.Agrees new (changed_moment moment change)
+RunsBy (Ok None) old new = new ≡ old
+RunsBy (Err refusal) old new = new ≡ old
+
+run_given : (change : Option Change) (old new : Going) (core : CoreState) → RunsBy (Ok change) old new → sims.Agrees old (moment_of core) →
+    sims.Agrees (sims.touched new) (record { rows = core.rows; box = changed_by change core.box; before = core.before; stood = true })
+run_given None old new core is h =
+    touched_run new (moment_of core) (subst (λ g. sims.Agrees g (moment_of core)) (sym is) h)
+run_given (Some change) old new core runs h = touched_run new (changed_moment (moment_of core) change) (runs (moment_of core) h)
+
+given_stands : (kept next : KeptCore) (core : CoreState) (new : Given) → raw_given kept.config.settings new.slot new.text ≡ Ok new.raw → IsSlot new.slot →
+    next.config ≡ with_assignment kept.config new.slot new.text → next.sessions ≡ kept.sessions → next.acquisitions ≡ kept.acquisitions →
+    RunsBy (Ok (change_of new.slot new.raw)) kept.sim next.sim → Agrees kept core → Stands next (with_given core new)
+given_stands kept next core new e s config sessions acquired runs h =
     record {
-      rows = h.rows;
       settings =
-          ap (after_by kept.config.settings new.slot new.text) e ∙ ap (λ (x : Settings). assigned x new.slot new.text new.raw) h.settings;
+          ap (λ (c : KeptConfig). c.settings) config
+          ∙ (ap (after_by kept.config.settings new.slot new.text) e ∙ ap (λ (x : Settings). assigned x new.slot new.text new.raw) h.settings);
       assigned =
-          subst (λ numbers. AgreesWithAssigned numbers (target new.slot ∷ core.assigned)) (sym (ap (numbers_by kept.config.numbers new.slot) e))
+          subst (λ numbers. AgreesWithAssigned numbers (target new.slot ∷ core.assigned))
+          (sym (ap (λ (c : KeptConfig). c.numbers) config ∙ ap (numbers_by kept.config.numbers new.slot) e))
           (one_more_agrees kept.config.numbers core.assigned (target new.slot) h.assigned
           (target_by_there (attribute_at new.slot) new.slot s));
-      box = changed_agrees (change_of new.slot new.raw) kept.box core.box h.box;
-      sessions = h.sessions;
-      acquisitions = h.acquisitions;
+      run = run_given (change_of new.slot new.raw) kept.sim next.sim core runs h.run;
+      sessions = subst (λ k. AreKept k core.sessions) (sym sessions) h.sessions;
+      acquisitions = subst (λ k. acquire.Agrees k core.acquisitions) (sym acquired) h.acquisitions;
     }
 
-given_by : (kept : KeptCore) (core : CoreState) (id : ℕ) (slot : Slot) (text : List ℕ) (r : Result ℕ Refusal) →
-    raw_given kept.config.settings slot text ≡ r → IsSlot slot → Agrees kept core →
-    Agrees (kept_given_by kept (result_map (given slot text) r)) (left_by core id (result_map gives (result_map (given slot text) r)))
-given_by kept core id slot text (Ok raw) e s h = given_agrees kept core (given slot text raw) e s h
-given_by kept core id slot text (Err refusal) e s h = h
+-- with nothing changed
+same_stands : (kept next : KeptCore) (core : CoreState) → next.config.settings ≡ kept.config.settings → next.config.numbers ≡ kept.config.numbers →
+    next.sim ≡ kept.sim → next.sessions ≡ kept.sessions → next.acquisitions ≡ kept.acquisitions → Agrees kept core → Stands next core
+same_stands kept next core settings numbers sim sessions acquired h =
+    let s : Stands kept core = stands_same kept core h in
+    record {
+      settings = settings ∙ h.settings;
+      assigned = subst (λ n. AgreesWithAssigned n core.assigned) (sym numbers) h.assigned;
+      run = subst (λ g. sims.Agrees (sims.touched g) (stood_at (moment_of core))) (sym sim) s.run;
+      sessions = subst (λ k. AreKept k core.sessions) (sym sessions) h.sessions;
+      acquisitions = subst (λ k. acquire.Agrees k core.acquisitions) (sym acquired) h.acquisitions;
+    }
 
-pub set_agrees : (kept next : KeptCore) (core : CoreState) (id : ℕ) (slot : Slot) (text : List ℕ) → IsSlot slot →
-    next ≡ kept_given_by kept (slot_given kept.config.settings text slot) → Agrees kept core →
-    Agrees next (left_by core id (result_map gives (slot_given core.settings text slot)))
-set_agrees kept next core id slot text s e h =
-    subst (λ (x : Settings). Agrees next (left_by core id (result_map gives (slot_given x text slot)))) h.settings
-    (subst (λ k. Agrees k (left_by core id (result_map gives (slot_given kept.config.settings text slot)))) (sym e)
-    (given_by kept core id slot text (raw_given kept.config.settings slot text) refl s h))
+given_by : (kept next : KeptCore) (core : CoreState) (id : ℕ) (slot : Slot) (text : List ℕ) (r : Result ℕ Refusal) →
+    raw_given kept.config.settings slot text ≡ r → IsSlot slot →
+    next.config ≡ with_assignment kept.config slot text → next.sessions ≡ kept.sessions → next.acquisitions ≡ kept.acquisitions →
+    RunsBy (result_map (change_of slot) r) kept.sim next.sim → Agrees kept core →
+    Stands next (left_by core id (result_map gives (result_map (given slot text) r)))
+given_by kept next core id slot text (Ok raw) e s config sessions acquired runs h =
+    given_stands kept next core (given slot text raw) e s config sessions acquired runs h
+given_by kept next core id slot text (Err refusal) e s config sessions acquired runs h =
+    same_stands kept next core
+    (ap (λ (c : KeptConfig). c.settings) config ∙ ap (after_by kept.config.settings slot text) e)
+    (ap (λ (c : KeptConfig). c.numbers) config ∙ ap (numbers_by kept.config.numbers slot) e)
+    runs sessions acquired h
+
+pub set_stands : (kept next : KeptCore) (core : CoreState) (id : ℕ) (slot : Slot) (text : List ℕ) → IsSlot slot →
+    next.config ≡ with_assignment kept.config slot text → next.sessions ≡ kept.sessions → next.acquisitions ≡ kept.acquisitions →
+    RunsBy (told kept.config.settings slot text) kept.sim next.sim → Agrees kept core →
+    Stands next (left_by core id (result_map gives (slot_given core.settings text slot)))
+set_stands kept next core id slot text s config sessions acquired runs h =
+    subst (λ (x : Settings). Stands next (left_by core id (result_map gives (slot_given x text slot)))) h.settings
+    (given_by kept next core id slot text (raw_given kept.config.settings slot text) refl s config sessions acquired runs h)
 
 -- a command of capture
 
-capture_agrees : (kept : KeptCore) (core : CoreState) (id : ℕ) (deed : CaptureDeed) (acquired : acquire.Kept) → Agrees kept core →
-    acquire.Agrees acquired (acquisitions_after deed core.acquisitions) → Agrees (kept_with_capture kept deed acquired) (with_deed core id (captures deed))
-capture_agrees kept core id clears acquired h a =
+pub clears_stands : (kept next : KeptCore) (core : CoreState) (id : ℕ) → next.config ≡ with_clearing kept.config → next.sim ≡ kept.sim →
+    next.sessions ≡ kept.sessions → next.acquisitions ≡ kept.acquisitions → Agrees kept core → Stands next (with_deed core id (captures clears))
+clears_stands kept next core id config sim sessions acquired h =
+    let s : Stands kept core = stands_same kept core h in
     record {
-      rows = h.rows;
-      settings = ap without_captures h.settings;
-      assigned = cleared_agree kept.config.numbers core.assigned h.assigned;
-      box = h.box;
-      sessions = h.sessions;
-      acquisitions = a;
-    }
-capture_agrees kept core id (arms layout) acquired h a =
-    record {
-      rows = h.rows;
-      settings = h.settings;
-      assigned = h.assigned;
-      box = change_agrees kept.box core.box (changes.Arm (room_of layout)) h.box;
-      sessions = h.sessions;
-      acquisitions = a;
-    }
-capture_agrees kept core id disarms acquired h a =
-    record {
-      rows = h.rows;
-      settings = h.settings;
-      assigned = h.assigned;
-      box = change_agrees kept.box core.box changes.Disarm h.box;
-      sessions = h.sessions;
-      acquisitions = a;
+      settings = ap (λ (c : KeptConfig). c.settings) config ∙ ap without_captures h.settings;
+      assigned =
+          subst (λ (c : KeptConfig). AgreesWithAssigned c.numbers (with_deed core id (captures clears)).assigned) (sym config)
+          (cleared_agree kept.config.numbers core.assigned h.assigned);
+      run = subst (λ g. sims.Agrees (sims.touched g) (stood_at (moment_of core))) (sym sim) s.run;
+      sessions = subst (λ k. AreKept k core.sessions) (sym sessions) h.sessions;
+      acquisitions = subst (λ k. acquire.Agrees k core.acquisitions) (sym acquired) h.acquisitions;
     }
 
-pub captured_agrees : (kept next : KeptCore) (core : CoreState) (id : ℕ) (r : Result CaptureDeed Refusal) → Agrees kept core →
-    IsLeftBy kept next core.acquisitions r → Agrees next (left_by core id (result_map captures r))
-captured_agrees kept next core id (Err refusal) h is = subst (λ k. Agrees k core) (sym is) h
-captured_agrees kept next core id (Ok deed) h is =
-    subst (λ k. Agrees k (with_deed core id (captures deed))) (sym is.kept) (capture_agrees kept core id deed next.acquisitions h is.acquisitions)
+-- PCAP is armed or disarmed
+capture_stands : (kept next : KeptCore) (core left : CoreState) (change : Change) → next.config ≡ kept.config → next.sessions ≡ kept.sessions →
+    left.settings ≡ core.settings → left.assigned ≡ core.assigned → left.sessions ≡ core.sessions →
+    stood_at (moment_of left) ≡ changed_moment (moment_of core) change →
+    ((moment : Moment) → sims.Agrees kept.sim moment → sims.Agrees next.sim (changed_moment moment change)) →
+    acquire.Agrees next.acquisitions left.acquisitions → Agrees kept core → Stands next left
+capture_stands kept next core left change config sessions s a o m runs acquired h =
+    record {
+      settings = ap (λ (c : KeptConfig). c.settings) config ∙ (h.settings ∙ sym s);
+      assigned =
+          subst (λ (c : KeptConfig). AgreesWithAssigned c.numbers left.assigned) (sym config)
+          (subst (λ slots. AgreesWithAssigned kept.config.numbers slots) (sym a) h.assigned);
+      run =
+          subst (λ moment. sims.Agrees (sims.touched next.sim) moment) (sym m)
+          (touched_run next.sim (changed_moment (moment_of core) change) (runs (moment_of core) h.run));
+      sessions =
+          subst (λ k. AreKept k left.sessions) (sym sessions) (subst (λ l. AreKept kept.sessions l) (sym o) h.sessions);
+      acquisitions = acquired;
+    }
+
+pub arms_stands : (kept next : KeptCore) (core : CoreState) (id : ℕ) (layout : List Field) → next.config ≡ kept.config → next.sessions ≡ kept.sessions →
+    ((moment : Moment) → sims.Agrees kept.sim moment → sims.Agrees next.sim (changed_moment moment (changes.Arm (room_of layout)))) →
+    acquire.Agrees next.acquisitions (armed layout core.acquisitions) → Agrees kept core → Stands next (with_deed core id (captures (arms layout)))
+arms_stands kept next core id layout config sessions runs acquired h =
+    capture_stands kept next core (with_deed core id (captures (arms layout))) (changes.Arm (room_of layout)) config sessions refl refl refl refl runs acquired h
+
+pub disarms_stands : (kept next : KeptCore) (core : CoreState) (id : ℕ) → next.config ≡ kept.config → next.sessions ≡ kept.sessions →
+    ((moment : Moment) → sims.Agrees kept.sim moment → sims.Agrees next.sim (changed_moment moment changes.Disarm)) →
+    acquire.Agrees next.acquisitions (ended conditions.Disarmed core.acquisitions) → Agrees kept core → Stands next (with_deed core id (captures disarms))
+disarms_stands kept next core id config sessions runs acquired h =
+    capture_stands kept next core (with_deed core id (captures disarms)) changes.Disarm config sessions refl refl refl refl runs acquired h
 
 -- a table that was written
 
-written_agrees : (kept : KeptCore) (core : CoreState) (slot : Slot) (left : Result (List ℕ) Refusal) → IsSlot slot → Agrees kept core →
-    Agrees (kept_written_by kept (result_map (left_to slot) left)) (written_by core (result_map (left_to slot) left))
-written_agrees kept core slot (Err refusal) s h = h
-written_agrees kept core slot (Ok words) s h =
+written_stands : (kept next : KeptCore) (core : CoreState) (slot : Slot) (left : Result (List ℕ) Refusal) → IsSlot slot →
+    next.config ≡ noted_if left kept.config slot → next.sessions ≡ kept.sessions → next.acquisitions ≡ kept.acquisitions →
+    ((moment : Moment) → sims.Agrees kept.sim moment → sims.Agrees next.sim (written_moment moment slot.instance left)) → Agrees kept core →
+    Stands next (written_by core (result_map (left_to slot) left))
+written_stands kept next core slot (Err refusal) s config sessions acquired runs h =
     record {
-      rows = h.rows;
-      settings = h.settings;
-      assigned = one_more_agrees kept.config.numbers core.assigned slot h.assigned s;
-      box = table_agrees kept.box core.box slot.instance words h.box;
-      sessions = h.sessions;
-      acquisitions = h.acquisitions;
+      settings = ap (λ (c : KeptConfig). c.settings) config ∙ h.settings;
+      assigned = subst (λ (c : KeptConfig). AgreesWithAssigned c.numbers core.assigned) (sym config) h.assigned;
+      run = touched_run next.sim (moment_of core) (runs (moment_of core) h.run);
+      sessions = subst (λ k. AreKept k core.sessions) (sym sessions) h.sessions;
+      acquisitions = subst (λ k. acquire.Agrees k core.acquisitions) (sym acquired) h.acquisitions;
+    }
+written_stands kept next core slot (Ok words) s config sessions acquired runs h =
+    record {
+      settings = ap (λ (c : KeptConfig). c.settings) config ∙ h.settings;
+      assigned =
+          subst (λ (c : KeptConfig). AgreesWithAssigned c.numbers (slot ∷ core.assigned)) (sym config)
+          (one_more_agrees kept.config.numbers core.assigned slot h.assigned s);
+      run = touched_run next.sim (written_moment (moment_of core) slot.instance (Ok words)) (runs (moment_of core) h.run);
+      sessions = subst (λ k. AreKept k core.sessions) (sym sessions) h.sessions;
+      acquisitions = subst (λ k. acquire.Agrees k core.acquisitions) (sym acquired) h.acquisitions;
     }
 
--- what is kept after a table write is that of the core after it
-pub wrote : (kept next : KeptCore) (core : CoreState) (slot : Slot) (append base64 : Bool) (body : List ℕ) → IsSlot slot → is_table slot ≡ true →
-    next ≡ kept_written_by kept (table_written (stands_of kept.box) append base64 body slot) → Agrees kept core →
-    Agrees next (written_by core (slot_written core.box.stands append base64 body slot))
-wrote kept next core slot append base64 body s t is h =
-    let same : next ≡ kept_written_by kept (table_written core.box.stands append base64 body slot) =
-    is ∙ ap (λ b. kept_written_by kept (table_written b append base64 body slot)) h.box.stands in
+pub noted_ok : (left : Result (List ℕ) Refusal) (config next : KeptConfig) (slot : Slot) → Ok tt ≡ answer_of left → next ≡ with_note config slot →
+    next ≡ noted_if left config slot
+noted_ok (Ok words) config next slot e h = h
+noted_ok (Err refusal) config next slot e h = absurd (cc)
+
+pub noted_err : (left : Result (List ℕ) Refusal) (config next : KeptConfig) (slot : Slot) (refusal : Refusal) → Err refusal ≡ answer_of left → next ≡ config →
+    next ≡ noted_if left config slot
+noted_err (Ok words) config next slot refusal e h = absurd (cc)
+noted_err (Err other) config next slot refusal e h = h
+
+-- by the words that stand in the table
+pub table_stands : (kept next : KeptCore) (core : CoreState) (slot : Slot) (append base64 : Bool) (body : List ℕ) → IsSlot slot →
+    next.config ≡ noted_if (written (table_of (box_of kept).blocks slot.instance) append base64 body) kept.config slot →
+    next.sessions ≡ kept.sessions → next.acquisitions ≡ kept.acquisitions →
+    ((moment : Moment) → sims.Agrees kept.sim moment →
+    sims.Agrees next.sim (written_moment moment slot.instance (written (table_of (box_of kept).blocks slot.instance) append base64 body))) → Agrees kept core →
+    Stands next (written_by core (table_written core.box.stands append base64 body slot))
+table_stands kept next core slot append base64 body s config sessions acquired runs h =
+    subst (λ (box : Standing). Stands next (written_by core (table_written box append base64 body slot))) h.run.box.stands
+    (written_stands kept next core slot (written (table_of (box_of kept).blocks slot.instance) append base64 body) s config sessions acquired runs h)
+
+-- what is left after a table write to a slot
+pub wrote : (next : KeptCore) (core : CoreState) (slot : Slot) (append base64 : Bool) (body : List ℕ) → is_table slot ≡ true →
+    Stands next (written_by core (table_written core.box.stands append base64 body slot)) →
+    Stands next (written_by core (slot_written core.box.stands append base64 body slot))
+wrote next core slot append base64 body t h =
     let here : slot_written core.box.stands append base64 body slot ≡ table_written core.box.stands append base64 body slot =
     ap (λ b. if b then table_written core.box.stands append base64 body slot else Err refusals.NotWriteable) t in
-    subst (λ r. Agrees next (written_by core r)) (sym here)
-    (subst (λ k. Agrees k (written_by core (table_written core.box.stands append base64 body slot))) (sym same)
-    (written_agrees kept core slot (written (table_of core.box.stands.blocks slot.instance) append base64 body) s h))
+    subst (λ r. Stands next (written_by core r)) (sym here) h
 
 -- nothing is written where the slot is no table
 pub wrote_nothing : (kept : KeptCore) (core : CoreState) (slot : Slot) (append base64 : Bool) (body : List ℕ) → is_table slot ≡ false →
-    Agrees kept core → Agrees kept (written_by core (slot_written core.box.stands append base64 body slot))
+    Agrees kept core → Stands kept (written_by core (slot_written core.box.stands append base64 body slot))
 wrote_nothing kept core slot append base64 body t h =
     let here : slot_written core.box.stands append base64 body slot ≡ Err refusals.NotWriteable =
     ap (λ b. if b then table_written core.box.stands append base64 body slot else Err refusals.NotWriteable) t in
-    subst (λ r. Agrees kept (written_by core r)) (sym here) h
+    subst (λ r. Stands kept (written_by core r)) (sym here) (stands_same kept core h)
 
 -- to what a target names
 pub wrote_named : (next : KeptCore) (core : CoreState) (target : List ℕ) (named : Named) (append base64 : Bool) (body : List ℕ) → named_by target ≡ Ok named →
-    Agrees next (written_by core (named_written core.box.stands append base64 body named)) →
-    Agrees next (written_by core (table_write core.box.stands target append base64 body))
+    Stands next (written_by core (named_written core.box.stands append base64 body named)) →
+    Stands next (written_by core (table_write core.box.stands target append base64 body))
 wrote_named next core target named append base64 body e h =
-    subst (λ r. Agrees next (written_by core (result_then r (named_written core.box.stands append base64 body)))) (sym e) h
+    subst (λ r. Stands next (written_by core (result_then r (named_written core.box.stands append base64 body)))) (sym e) h
 
 -- what is told by what is kept is told by the core
 pub answers_agree : (kept : KeptCore) (core : CoreState) (reports : Option Group → List ℕ) (said : Said) → Agrees kept core →
-    said_answer kept.config.settings (stands_of kept.box) (open_of kept.sessions) core.acquisitions reports said
+    said_answer kept.config.settings (stands_of (box_of kept)) (open_of kept.sessions) core.acquisitions reports said
     ≡ said_answer core.settings core.box.stands (open_of core.sessions) core.acquisitions reports said
 answers_agree kept core reports said h =
-    ap (λ s. said_answer s (stands_of kept.box) (open_of kept.sessions) core.acquisitions reports said) h.settings
-    ∙ (ap (λ b. said_answer core.settings b (open_of kept.sessions) core.acquisitions reports said) h.box.stands
+    ap (λ s. said_answer s (stands_of (box_of kept)) (open_of kept.sessions) core.acquisitions reports said) h.settings
+    ∙ (ap (λ b. said_answer core.settings b (open_of kept.sessions) core.acquisitions reports said) h.run.box.stands
     ∙ ap (λ x. said_answer core.settings core.box.stands x core.acquisitions reports said) (same_open kept.sessions core.sessions h.sessions))
-
--- a change leaves the tick
-pub tick_stays : (change : Change) (kept : Kept) → (kept_changed_by (Some change) kept).tick ≡ kept.tick
-tick_stays (changes.Set slot raw) kept = refl
-tick_stays (changes.Arm room) kept = refl
-tick_stays changes.Disarm kept = refl
 
 -- the change that an assignment tells is one that the box takes
 pub told_change : (blocks : List Block) (told : Result (Option Change) Refusal) (change : Change) → told ≡ Ok (Some change) →

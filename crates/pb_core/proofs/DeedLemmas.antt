@@ -18,9 +18,8 @@ use Rattle.pb_config.specs.Capturing.{layout_of}
 use Rattle.pb_core.specs.Captures.{CaptureDeed, without_value, arming, capture_line}
 use Rattle.pb_core.specs.Assignments.{Given, gives, captures, resets, reset_given, slot_given, named_given, assignment}
 use Rattle.pb_core.specs.Answer.{done, left_by}
-use Rattle.pb_core.specs.Kept.{KeptCore, Agrees}
-use Rattle.pb_core.specs.Helpers.{IsThere, kept_given_by, IsLeftBy}
-use Rattle.pb_core.proofs.CoreLemmas.{set_agrees, captured_agrees}
+use Rattle.pb_core.specs.Kept.{KeptCore, Agrees, Stands}
+use Rattle.pb_core.specs.Helpers.{IsThere}
 
 -- What an assignment to what is named is answered and leaves.
 
@@ -44,10 +43,10 @@ named_done core target value named told e h =
 
 -- and so is what is left
 pub named_left : (core : CoreState) (next : KeptCore) (id : ℕ) (target value : List ℕ) (named : Named) → named_by target ≡ Ok named →
-    Agrees next (left_by core id (named_given core.settings core.acquisitions value named)) →
-    Agrees next (left_by core id (assignment core.settings core.acquisitions target value))
+    Stands next (left_by core id (named_given core.settings core.acquisitions value named)) →
+    Stands next (left_by core id (assignment core.settings core.acquisitions target value))
 named_left core next id target value named e h =
-    subst (λ r. Agrees next (left_by core id (result_then r (named_given core.settings core.acquisitions value)))) (sym e) h
+    subst (λ r. Stands next (left_by core id (result_then r (named_given core.settings core.acquisitions value)))) (sym e) h
 
 pub value_done : (kept : KeptCore) (core : CoreState) (target value : List ℕ) (slot : Slot) (told : Answer) → Agrees kept core →
     named_by target ≡ Ok (names.Value slot) → told ≡ done (slot_given kept.config.settings value slot) →
@@ -56,33 +55,15 @@ value_done kept core target value slot told h e d =
     named_done core target value (names.Value slot) told e
     (d ∙ (ap (λ s. done (slot_given s value slot)) h.settings ∙ given_done (slot_given core.settings value slot)))
 
-pub value_left : (kept next : KeptCore) (core : CoreState) (id : ℕ) (target value : List ℕ) (slot : Slot) → IsSlot slot → Agrees kept core →
-    named_by target ≡ Ok (names.Value slot) → next ≡ kept_given_by kept (slot_given kept.config.settings value slot) →
-    Agrees next (left_by core id (assignment core.settings core.acquisitions target value))
-value_left kept next core id target value slot s h e is =
-    named_left core next id target value (names.Value slot) e (set_agrees kept next core id slot value s is h)
-
 pub captures_done : (core : CoreState) (target value : List ℕ) (named : Named) (told : Answer) (r : Result CaptureDeed Refusal) →
     named_by target ≡ Ok named → named_given core.settings core.acquisitions value named ≡ result_map captures r → told ≡ done r →
     told ≡ done (assignment core.settings core.acquisitions target value)
 captures_done core target value named told r e is d = named_done core target value named told e (d ∙ (captured_done r ∙ ap done (sym is)))
 
-pub captures_left : (kept next : KeptCore) (core : CoreState) (id : ℕ) (target value : List ℕ) (named : Named) (r : Result CaptureDeed Refusal) →
-    named_by target ≡ Ok named → named_given core.settings core.acquisitions value named ≡ result_map captures r → Agrees kept core →
-    IsLeftBy kept next core.acquisitions r → Agrees next (left_by core id (assignment core.settings core.acquisitions target value))
-captures_left kept next core id target value named r e is h left =
-    named_left core next id target value named e
-    (subst (λ d. Agrees next (left_by core id d)) (sym is) (captured_agrees kept next core id r h left))
-
 pub resets_done : (core : CoreState) (target value : List ℕ) (group : Option Group) (told : Answer) → named_by target ≡ Ok (names.Changes group) →
     told ≡ done (reset_given value) → told ≡ done (assignment core.settings core.acquisitions target value)
 resets_done core target value group told e d =
     named_done core target value (names.Changes group) told e (d ∙ reset_done group (reset_given value))
-
-pub resets_left : (core : CoreState) (next : KeptCore) (id : ℕ) (target value : List ℕ) (group : Option Group) → named_by target ≡ Ok (names.Changes group) →
-    Agrees next (left_by core id (result_map (resets group) (reset_given value))) →
-    Agrees next (left_by core id (assignment core.settings core.acquisitions target value))
-resets_left core next id target value group e h = named_left core next id target value (names.Changes group) e h
 
 -- arming, by what is kept
 pub arming_is : (kept : KeptCore) (core : CoreState) (value : List ℕ) → Agrees kept core →

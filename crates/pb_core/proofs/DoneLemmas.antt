@@ -18,14 +18,14 @@ use Rattle.pb_core.specs.declared.events.Event.{Event}
 use Rattle.pb_core.specs.declared.events.Event.TheVariants as events
 use Rattle.pb_core.specs.declared.targets.Named.{Named}
 use Rattle.pb_core.specs.declared.targets.Named.TheVariants as names
-use Rattle.pb_core.specs.Core.{CoreState, with_acquisitions}
+use Rattle.pb_core.specs.Core.{CoreState, marked, with_acquisitions}
 use Rattle.pb_core.specs.Naming.{named_by}
 use Rattle.pb_core.specs.Sessions.{open_of, is_open, is_reading, told_if_open, opened_answer, opened_by, piece_answer}
 use Rattle.pb_core.specs.Queries.{named_reply}
 use Rattle.pb_core.specs.Telling.{reports_to, after_telling}
 use Rattle.pb_core.specs.Assignments.{Deed, resets, reset_given, assignment}
 use Rattle.pb_core.specs.Writing.{Written, table_write}
-use Rattle.pb_core.specs.Answer.{replied, done, left_by, written_by, asked_of, line_answer, said_after, answer, after, AsksForReport}
+use Rattle.pb_core.specs.Answer.{replied, done, left_by, written_by, asked_of, line_answer, said_after, answer, done_by, after, AsksForReport}
 use Rattle.pb_core.proofs.ClosedLemmas.{not_said, take_closed}
 use Rattle.pb_core.proofs.NamingLemmas.{is_same-false}
 
@@ -72,16 +72,20 @@ not_taken true pieces.Done refusal e = cc
 not_taken true pieces.NotYet refusal e = cc
 not_taken true (pieces.Bytes text) refusal e = cc
 
-pub event_refused : (core : CoreState) (event : Event) (refusal : Refusal) → answer core event ≡ answers.Error refusal → after core event ≡ core
-event_refused core (events.OpenControl id) refusal e = absurd (cc)
-event_refused core (events.Line id text) refusal e = line_refused (is_open core.sessions id) core id (command_of text) refusal e
-event_refused core (events.Bad id other) refusal e = refl
-event_refused core (events.CloseControl id) refusal e = absurd (cc)
-event_refused core (events.OpenData id options) refusal e = options_refused core id (options_of options) refusal e
-event_refused core (events.Take id) refusal e =
+done_refused : (core : CoreState) (event : Event) (refusal : Refusal) → answer core event ≡ answers.Error refusal → done_by core event ≡ core
+done_refused core (events.OpenControl id) refusal e = absurd (cc)
+done_refused core (events.Line id text) refusal e = line_refused (is_open core.sessions id) core id (command_of text) refusal e
+done_refused core (events.Bad id other) refusal e = refl
+done_refused core (events.CloseControl id) refusal e = absurd (cc)
+done_refused core (events.OpenData id options) refusal e = options_refused core id (options_of options) refusal e
+done_refused core (events.Take id) refusal e =
     absurd (not_taken (is_reading core.acquisitions id) (piece_of (take_of core.acquisitions id)) refusal e)
-event_refused core (events.CloseData id) refusal e = absurd (cc)
-event_refused core (events.Advance to) refusal e = absurd (cc)
+done_refused core (events.CloseData id) refusal e = absurd (cc)
+done_refused core (events.Advance to most) refusal e = absurd (cc)
+
+pub event_refused : (core : CoreState) (event : Event) (refusal : Refusal) → answer core event ≡ answers.Error refusal → after core event ≡ marked core
+event_refused core (events.Advance to most) refusal e = absurd (cc)
+event_refused core event refusal e = ap marked (done_refused core event refusal e)
 
 -- And one of a session that isn't open.
 
@@ -94,16 +98,20 @@ not_opened : (r : Result Options Refusal) → opened_answer r ≡ answers.Closed
 not_opened (Ok options) e = cc
 not_opened (Err refusal) e = cc
 
-pub event_closed : (core : CoreState) (event : Event) → answer core event ≡ answers.Closed → after core event ≡ core
-event_closed core (events.OpenControl id) e = absurd (cc)
-event_closed core (events.Line id text) e = line_closed_left (is_open core.sessions id) core id (command_of text) e
-event_closed core (events.Bad id refusal) e = refl
-event_closed core (events.CloseControl id) e = absurd (cc)
-event_closed core (events.OpenData id options) e = absurd (not_opened (options_of options) e)
-event_closed core (events.Take id) e =
+done_closed : (core : CoreState) (event : Event) → answer core event ≡ answers.Closed → done_by core event ≡ core
+done_closed core (events.OpenControl id) e = absurd (cc)
+done_closed core (events.Line id text) e = line_closed_left (is_open core.sessions id) core id (command_of text) e
+done_closed core (events.Bad id refusal) e = refl
+done_closed core (events.CloseControl id) e = absurd (cc)
+done_closed core (events.OpenData id options) e = absurd (not_opened (options_of options) e)
+done_closed core (events.Take id) e =
     ap (λ reader. with_acquisitions core (reader_left_by id core.acquisitions (taken_by core.acquisitions reader))) ((take_closed core id).0 e)
-event_closed core (events.CloseData id) e = absurd (cc)
-event_closed core (events.Advance to) e = absurd (cc)
+done_closed core (events.CloseData id) e = absurd (cc)
+done_closed core (events.Advance to most) e = absurd (cc)
+
+pub event_closed : (core : CoreState) (event : Event) → answer core event ≡ answers.Closed → after core event ≡ marked core
+event_closed core (events.Advance to most) e = absurd (cc)
+event_closed core event e = ap marked (done_closed core event e)
 
 -- Of lines that are answered by a reply only those that ask for a report leave something.
 
@@ -129,11 +137,22 @@ said_replied core id (Table target append base64 body) reply e =
 said_replied core id (Echo text) reply e = inl refl
 said_replied core id (Bad refusal) reply e = inl refl
 
-pub line_replied : (is_there : Bool) (core : CoreState) (id : ℕ) (said : Said) (reply : List ℕ) →
+line_replied : (is_there : Bool) (core : CoreState) (id : ℕ) (said : Said) (reply : List ℕ) →
     told_if_open is_there (line_answer core id said) ≡ answers.Reply reply →
     IsReported core id said (if is_there then said_after core id said else core)
 line_replied true core id said reply e = said_replied core id said reply e
 line_replied false core id said reply e = inl refl
+
+marked_reported : (core : CoreState) (id : ℕ) (said : Said) (next : CoreState) → IsReported core id said next →
+    (marked next ≡ marked core) ⊎ ((group : Option Group) × AsksForReport said group × (marked next ≡ marked (after_telling core id group)))
+marked_reported core id said next (inl e) = inl (ap marked e)
+marked_reported core id said next (inr (group, asks, e)) = inr (group, asks, ap marked e)
+
+pub line_marked : (core : CoreState) (id : ℕ) (bytes reply : List ℕ) → answer core (events.Line id bytes) ≡ answers.Reply reply →
+    (after core (events.Line id bytes) ≡ marked core)
+    ⊎ ((group : Option Group) × AsksForReport (command_of bytes) group × (after core (events.Line id bytes) ≡ marked (after_telling core id group)))
+line_marked core id bytes reply e =
+    marked_reported core id (command_of bytes) (done_by core (events.Line id bytes)) (line_replied (is_open core.sessions id) core id (command_of bytes) reply e)
 
 -- which values a reset doesn't take
 

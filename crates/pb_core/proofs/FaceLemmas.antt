@@ -22,23 +22,23 @@ use Rattle.pb_changes.specs.declared.Group.TheVariants as groups
 use Rattle.pb_changes.specs.Groups.{is_in, is_settled, is_setting, is_own, is_bit_out, is_pos_out, is_read}
 use Rattle.pb_changes.specs.Past.{AgreesWithPast}
 use Rattle.pb_core.specs.Core.{CoreState}
-use Rattle.pb_core.specs.Kept.{KeptCore, Agrees}
+use Rattle.pb_core.specs.Kept.{KeptCore, box_of, Agrees}
 use Rattle.pb_core.specs.Telling.{past_of, shown_as, shown_now, shows_of}
 use Rattle.pb_core.specs.Helpers.{told_of}
 
-pub face_agrees : (kept : KeptCore) (core : CoreState) → Agrees kept core → AgreesWithPast (told_of kept.config kept.box) (past_of core)
+pub face_agrees : (kept : KeptCore) (core : CoreState) → Agrees kept core → AgreesWithPast (told_of kept.config (box_of kept)) (past_of core)
 face_agrees kept core h =
-    let bus : kept.box.buses.bus ≡ core.box.stands.bus = ap (λ (s : Standing). s.bus) h.box.stands in
+    let bus : (box_of kept).buses.bus ≡ core.box.stands.bus = ap (λ (s : Standing). s.bus) h.run.box.stands in
     record {
       assignments = h.assigned.total;
       assigned = h.assigned.each;
-      states = omega (arith, h.box.ticks);
-      changed = λ entry within. h.box.changes.changes entry within ∙ ap (λ (b : Bus). last_change entry (b ∷ core.box.past)) bus;
+      states = omega (arith, h.run.box.ticks);
+      changed = λ entry within. h.run.box.changes.changes entry within ∙ ap (λ (b : Bus). last_change entry (b ∷ core.box.past)) bus;
     }
 
-pub shows_same : (kept : KeptCore) (core : CoreState) → Agrees kept core → shown_now kept.config.settings (stands_of kept.box) ≡ shows_of core
+pub shows_same : (kept : KeptCore) (core : CoreState) → Agrees kept core → shown_now kept.config.settings (stands_of (box_of kept)) ≡ shows_of core
 shows_same kept core h =
-    ap (λ (s : Settings). shown_now s (stands_of kept.box)) h.settings ∙ ap (λ (b : Standing). shown_now core.settings b) h.box.stands
+    ap (λ (s : Settings). shown_now s (stands_of (box_of kept))) h.settings ∙ ap (λ (b : Standing). shown_now core.settings b) h.run.box.stands
 
 -- Which slots a report asks for.
 

@@ -1,5 +1,5 @@
 -- Histories that go on by an entry.
-use Rattle.std.proofs.Common.{◌≡◌, ◌-◌, ◌++◌, ◌∷◌, [], ℕ, zero, suc, Bool, true, false, List, Option, Some, None, Result, Ok, Err, IfOk, OnErr, cond, refl, sym, ap, ◌∙◌, subst}
+use Rattle.std.proofs.Common.{◌≡◌, ◌-◌, ◌++◌, ◌∷◌, [], ℕ, zero, suc, Bool, true, false, List, Result, Ok, Err, IfOk, OnErr, cond, ◌≤◌, refl, sym, ◌∙◌, subst, arith}
 use Rattle.pb_words.specs.declared.OutOfMemory.{OutOfMemory}
 use Rattle.pb_words.specs.declared.Refusal.{Refusal}
 use Rattle.pb_stim.specs.declared.Row.{Row}
@@ -8,8 +8,6 @@ use Rattle.pb_core.specs.declared.events.Event.{Event}
 use Rattle.pb_core.specs.declared.events.Event.TheVariants as events
 use Rattle.pb_core.specs.declared.events.Answer.{Answer}
 use Rattle.pb_core.specs.declared.events.Answer.TheVariants as answers
-use Rattle.pb_core.specs.declared.events.Why.{Why}
-use Rattle.pb_core.specs.declared.events.Why.TheVariants as whys
 use Rattle.pb_core.specs.declared.servers.Entry.{Entry}
 use Rattle.pb_core.specs.declared.targets.Named.{Named}
 use Rattle.pb_core.specs.declared.targets.Named.TheVariants as names
@@ -20,8 +18,10 @@ use Rattle.pb_core.specs.Assignments.{Deed, gives, captures, resets, assignment}
 use Rattle.pb_core.specs.Writing.{Written, table_write}
 use Rattle.pb_core.specs.Naming.{named_by}
 use Rattle.pb_core.specs.Sessions.{is_open}
-use Rattle.pb_core.specs.Answer.{CanHappen, answer, after, said_after, asked_of, left_by, written_by, IsTold, after_told, EventMayLack}
-use Rattle.pb_core.specs.History.{IsResult, IsNext, IsLegal, StandsFor, after_result, after_entry, core_after}
+use Rattle.pb_going.specs.Sims.{outdated}
+use Rattle.pb_core.specs.Costs.{Costs}
+use Rattle.pb_core.specs.Answer.{CanHappen, answer, done_by, with_mark, after, said_after, asked_of, left_by, written_by, IsTold, after_told, EventMayLack}
+use Rattle.pb_core.specs.History.{IsNext, IsLegal, StandsFor, after_entry, core_after, one_line_more, lines_behind}
 
 -- The rows of the stimulus stay.
 
@@ -56,18 +56,25 @@ ticks_rows : (n : ℕ) (core : CoreState) → (ticks_of_core n core).rows ≡ co
 ticks_rows zero core = refl
 ticks_rows (suc n) core = ticks_rows n (ticked core)
 
+done_rows : (core : CoreState) (event : Event) → (done_by core event).rows ≡ core.rows
+done_rows core (events.OpenControl id) = refl
+done_rows core (events.Line id text) = either_rows (is_open core.sessions id) (said_after core id (command_of text)) core (said_rows core id (command_of text))
+done_rows core (events.Bad id refusal) = refl
+done_rows core (events.CloseControl id) = refl
+done_rows core (events.OpenData id options) = refl
+done_rows core (events.Take id) = refl
+done_rows core (events.CloseData id) = refl
+done_rows core (events.Advance to most) = ticks_rows (to - core.box.stands.tick) core
+
+mark_rows : (event : Event) (core : CoreState) → (with_mark event core).rows ≡ core.rows
+mark_rows (events.Advance to most) core = refl
+mark_rows event core = refl
+
 after_rows : (core : CoreState) (event : Event) → (after core event).rows ≡ core.rows
-after_rows core (events.OpenControl id) = refl
-after_rows core (events.Line id text) = either_rows (is_open core.sessions id) (said_after core id (command_of text)) core (said_rows core id (command_of text))
-after_rows core (events.Bad id refusal) = refl
-after_rows core (events.CloseControl id) = refl
-after_rows core (events.OpenData id options) = refl
-after_rows core (events.Take id) = refl
-after_rows core (events.CloseData id) = refl
-after_rows core (events.Advance to) = ticks_rows (to - core.box.stands.tick) core
+after_rows core event = mark_rows event (done_by core event) ∙ done_rows core event
 
 told_rows : (core : CoreState) (event : Event) (told : Answer) → (after_told core event told).rows ≡ core.rows
-told_rows core (events.Advance to) (answers.Reached tick whys.Memory) = ticks_rows (tick - core.box.stands.tick) core
+told_rows core (events.Advance to most) (answers.Reached tick why) = ticks_rows (tick - core.box.stands.tick) core
 told_rows core event told = after_rows core event
 
 -- One entry more.
@@ -89,38 +96,60 @@ core_more : (core : CoreState) (history : List Entry) (entry : Entry) → core_a
 core_more core [] entry = refl
 core_more core (first ∷ history) entry = core_more (after_entry core first) history entry
 
+lines_more : (lines : ℕ) (history : List Entry) (entry : Entry) → lines_behind lines (history ++ entry ∷ []) ≡ one_line_more entry.event (lines_behind lines history)
+lines_more lines [] entry = refl
+lines_more lines (first ∷ history) entry = lines_more (one_line_more first.event lines) history entry
+
+-- a line outdates at most one deadline, an advance leaves none outdated
+due_more : (event : Event) (core : CoreState) (old new : KeptCore) (was spent lines : ℕ) → Costs event core old new was spent → outdated old.sim ≤ lines →
+    outdated new.sim ≤ one_line_more event lines
+due_more (events.Line id text) core old new was spent lines c h = omega (arith, c.outdates, h)
+due_more (events.Advance to most) core old new was spent lines c h = omega (arith, c.known)
+due_more event core old new was spent lines c h = omega (arith, c.outdates, h)
+
 -- what is kept stands for a history more by an entry, where it agrees with the core after it
-goes_on : (old new : KeptCore) (history : List Entry) (entry : Entry) → StandsFor old history → IsNext (core_after (opening old.rows) history) entry
-    → new.rows ≡ old.rows → Agrees new (after_entry (core_after (opening old.rows) history) entry) → StandsFor new (history ++ entry ∷ [])
-goes_on old new history entry h next same agrees =
-    let core : CoreState = opening old.rows in
+goes_on : (old new : KeptCore) (history : List Entry) (entry : Entry) → StandsFor old history → IsNext (core_after (opening old.sim.rows) history) entry
+    → new.sim.rows ≡ old.sim.rows → Agrees new (after_entry (core_after (opening old.sim.rows) history) entry)
+    → outdated new.sim ≤ one_line_more entry.event (lines_behind 0 history) → StandsFor new (history ++ entry ∷ [])
+goes_on old new history entry h next same agrees due =
+    let core : CoreState = opening old.sim.rows in
     record {
       legal = subst (λ rows. IsLegal (opening rows) (history ++ entry ∷ [])) (sym same) (legal_more core history entry h.legal next);
       agrees = subst (λ rows. Agrees new (core_after (opening rows) (history ++ entry ∷ []))) (sym same) (subst (Agrees new) (sym (core_more core history entry)) agrees);
+      due = subst (λ n. outdated new.sim ≤ n) (sym (lines_more 0 history entry)) due;
     }
 
 -- What a call leaves behind that answers like a core.
-pub record Serves (old new : KeptCore) (event : Event) (result : Result Answer OutOfMemory) : Type 0 where
+pub record Serves (old new : KeptCore) (event : Event) (result : Result Answer OutOfMemory) (was spent : ℕ) : Type 0 where
   pub ok : (core : CoreState) → Agrees old core → IfOk result (IsTold core event)
   pub core : (core : CoreState) → Agrees old core → IfOk result (λ told. Agrees new (after_told core event told))
-  pub err : OnErr result (new ≡ old)
+  pub err : (core : CoreState) → Agrees old core → OnErr result (Agrees new core)
   pub memory : (core : CoreState) → Agrees old core → OnErr result (EventMayLack event (answer core event))
+  pub counts : (core : CoreState) → Agrees old core → Costs event core old new was spent
 
-same_rows : (old new : KeptCore) (core : CoreState) (event : Event) (told : Answer) → Agrees old core → Agrees new (after_told core event told) → new.rows ≡ old.rows
-same_rows old new core event told a b = b.rows ∙ (told_rows core event told ∙ sym a.rows)
+same_rows : (old new : KeptCore) (core next : CoreState) → Agrees old core → Agrees new next → next.rows ≡ core.rows → new.sim.rows ≡ old.sim.rows
+same_rows old new core next a b e = b.run.rows ∙ (e ∙ sym a.run.rows)
 
-pub serves_rows : (old new : KeptCore) (event : Event) (result : Result Answer OutOfMemory) (history : List Entry) → Serves old new event result → StandsFor old history → new.rows ≡ old.rows
-serves_rows old new event (Ok told) history s h = same_rows old new (core_after (opening old.rows) history) event told h.agrees (s.core _ h.agrees)
-serves_rows old new event (Err lack) history s h = ap (λ (kept : KeptCore). kept.rows) s.err
+pub serves_rows : (old new : KeptCore) (event : Event) (result : Result Answer OutOfMemory) (was spent : ℕ) (history : List Entry) → Serves old new event result was spent → StandsFor old history → new.sim.rows ≡ old.sim.rows
+serves_rows old new event (Ok told) was spent history s h =
+    let core : CoreState = core_after (opening old.sim.rows) history in
+    same_rows old new core (after_told core event told) h.agrees (s.core core h.agrees) (told_rows core event told)
+serves_rows old new event (Err lack) was spent history s h =
+    let core : CoreState = core_after (opening old.sim.rows) history in
+    same_rows old new core core h.agrees (s.err core h.agrees) refl
 
-pub serves_more : (old new : KeptCore) (event : Event) (result : Result Answer OutOfMemory) (history : List Entry) → CanHappen event → Serves old new event result → StandsFor old history
+pub serves_more : (old new : KeptCore) (event : Event) (result : Result Answer OutOfMemory) (was spent : ℕ) (history : List Entry) → CanHappen event → Serves old new event result was spent → StandsFor old history
     → StandsFor new (history ++ record { event = event; result = result } ∷ [])
-serves_more old new event (Ok told) history can s h =
-    goes_on old new history (record { event = event; result = Ok told }) h (record { can = can; told = s.ok _ h.agrees }) (serves_rows old new event (Ok told) history s h) (s.core _ h.agrees)
-serves_more old new event (Err lack) history can s h =
-    goes_on old new history (record { event = event; result = Err lack }) h (record { can = can; told = s.memory _ h.agrees }) (serves_rows old new event (Err lack) history s h)
-    (subst (λ (kept : KeptCore). Agrees kept (core_after (opening old.rows) history)) (sym s.err) h.agrees)
+serves_more old new event (Ok told) was spent history can s h =
+    let core : CoreState = core_after (opening old.sim.rows) history in
+    goes_on old new history (record { event = event; result = Ok told }) h (record { can = can; told = s.ok core h.agrees }) (serves_rows old new event (Ok told) was spent history s h) (s.core core h.agrees)
+    (due_more event core old new was spent (lines_behind 0 history) (s.counts core h.agrees) h.due)
+serves_more old new event (Err lack) was spent history can s h =
+    let core : CoreState = core_after (opening old.sim.rows) history in
+    goes_on old new history (record { event = event; result = Err lack }) h (record { can = can; told = s.memory core h.agrees }) (serves_rows old new event (Err lack) was spent history s h) (s.err core h.agrees)
+    (due_more event core old new was spent (lines_behind 0 history) (s.counts core h.agrees) h.due)
 
 -- a core that has just opened
-pub stands_at_first : (kept : KeptCore) (rows : List Row) → Agrees kept (opening rows) → StandsFor kept []
-stands_at_first kept rows h = record { legal = tt; agrees = subst (λ (r : List Row). Agrees kept (opening r)) (sym h.rows) h }
+pub stands_at_first : (kept : KeptCore) (rows : List Row) → Agrees kept (opening rows) → outdated kept.sim ≡ 0 → StandsFor kept []
+stands_at_first kept rows h known =
+    record { legal = tt; agrees = subst (λ (r : List Row). Agrees kept (opening r)) (sym h.run.rows) h; due = omega (arith, known) }

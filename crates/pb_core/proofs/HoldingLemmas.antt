@@ -45,7 +45,7 @@ use Rattle.pb_core.specs.Naming.{named_by}
 use Rattle.pb_changes.specs.declared.Group.{Group}
 use Rattle.pb_core.specs.Assignments.{given, gives, captures, resets, reset_given, with_given, changed_by, named_given}
 use Rattle.pb_core.specs.Writing.{Written, table_write}
-use Rattle.pb_core.specs.Answer.{left_by, written_by, asked_of, said_after, after, after_all}
+use Rattle.pb_core.specs.Answer.{left_by, written_by, asked_of, said_after, done_by, with_mark, after, after_all}
 use Rattle.pb_core.specs.Sessions.{is_open}
 use Rattle.pb_core.specs.Holding.{HasSettings}
 use Rattle.pb_core.proofs.ReachedLemmas.{IsSlotThere, IsFound, found_by}
@@ -286,15 +286,23 @@ line_holds : (is_there : Bool) (core : CoreState) (id : ℕ) (said : Said) → H
 line_holds true core id said h = said_holds core id said h
 line_holds false core id said h = h
 
+does_hold : (core : CoreState) (event : Event) → Holds core → Holds (done_by core event)
+does_hold core (events.OpenControl id) h = record { reached = h.reached; whole = h.whole; has = h.has }
+does_hold core (events.Line id text) h = line_holds (is_open core.sessions id) core id (command_of text) h
+does_hold core (events.Bad id refusal) h = h
+does_hold core (events.CloseControl id) h = record { reached = h.reached; whole = h.whole; has = h.has }
+does_hold core (events.OpenData id options) h = record { reached = h.reached; whole = h.whole; has = h.has }
+does_hold core (events.Take id) h = record { reached = h.reached; whole = h.whole; has = h.has }
+does_hold core (events.CloseData id) h = record { reached = h.reached; whole = h.whole; has = h.has }
+does_hold core (events.Advance to most) h = ticks_hold (to - core.box.stands.tick) core h
+
+-- the mark
+standing_holds : (event : Event) (core : CoreState) → Holds core → Holds (with_mark event core)
+standing_holds (events.Advance to most) core h = h
+standing_holds event core h = record { reached = h.reached; whole = h.whole; has = h.has }
+
 event_holds : (core : CoreState) (event : Event) → Holds core → Holds (after core event)
-event_holds core (events.OpenControl id) h = record { reached = h.reached; whole = h.whole; has = h.has }
-event_holds core (events.Line id text) h = line_holds (is_open core.sessions id) core id (command_of text) h
-event_holds core (events.Bad id refusal) h = h
-event_holds core (events.CloseControl id) h = record { reached = h.reached; whole = h.whole; has = h.has }
-event_holds core (events.OpenData id options) h = record { reached = h.reached; whole = h.whole; has = h.has }
-event_holds core (events.Take id) h = record { reached = h.reached; whole = h.whole; has = h.has }
-event_holds core (events.CloseData id) h = record { reached = h.reached; whole = h.whole; has = h.has }
-event_holds core (events.Advance to) h = ticks_hold (to - core.box.stands.tick) core h
+event_holds core event h = standing_holds event (done_by core event) (does_hold core event h)
 
 all_hold : (core : CoreState) (happened : List Event) → Holds core → Holds (after_all core happened)
 all_hold core [] h = h

@@ -75,10 +75,9 @@ pub told_agrees : (kept next : KeptCore) (core : CoreState) (id : ℕ) (marks : 
 told_agrees kept next core id marks reported one e h =
     subst (λ k. Agrees k (with_reported core id reported)) (sym e)
     (record {
-      rows = h.rows;
       settings = h.settings;
       assigned = h.assigned;
-      box = h.box;
+      run = h.run;
       sessions = one_kept kept.sessions core.sessions (id - 1) (Some marks) (Some reported) one h.sessions;
       acquisitions = h.acquisitions;
     })

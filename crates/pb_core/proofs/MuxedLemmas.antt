@@ -1,5 +1,5 @@
 -- Events leave the bit inputs as the settings have them.
-use Rattle.std.proofs.Common.{◌≡◌, ◌≢◌, ℕ, zero, suc, ◌-◌, ◌==◌, ◌&&◌, ◌||◌, Bool, true, false, not, List, [], ◌∷◌, get_or, slice_set, codes, Option, Some, None, Result, Ok, Err, refl, sym, ap, subst, ◌∙◌, arith, if◌then◌else◌}
+use Rattle.std.proofs.Common.{◌≡◌, ◌≢◌, ℕ, zero, suc, ◌-◌, ◌==◌, ◌&&◌, ◌||◌, Bool, true, false, not, List, [], ◌∷◌, length, get_or, slice_set, codes, Option, Some, None, Result, Ok, Err, refl, sym, ap, subst, ◌∙◌, arith, if◌then◌else◌}
 use Rattle.std.proofs.lemmas.Bool.{eqb-true}
 use Rattle.pb_words.specs.declared.Refusal.{Refusal}
 use Rattle.pb_words.specs.declared.Refusal.TheVariants as refusals
@@ -41,7 +41,7 @@ use Rattle.pb_core.specs.Naming.{named_by}
 use Rattle.pb_changes.specs.declared.Group.{Group}
 use Rattle.pb_core.specs.Assignments.{given, gives, captures, resets, reset_given, with_given, changed_by, named_given}
 use Rattle.pb_core.specs.Writing.{Written, table_write}
-use Rattle.pb_core.specs.Answer.{left_by, asked_of, said_after, after, after_all, written_by}
+use Rattle.pb_core.specs.Answer.{left_by, asked_of, said_after, done_by, with_mark, after, after_all, written_by}
 use Rattle.pb_core.specs.Sessions.{is_open}
 use Rattle.pb_core.proofs.TableLemmas.{holds_table, holds_capture}
 use Rattle.pb_core.specs.Muxes.{IsMux, delay_of, MuxesAreSet}
@@ -252,15 +252,23 @@ line_left : (is_there : Bool) (core : CoreState) (id : ℕ) (said : Said) → St
 line_left true core id said h = said_left core id said h
 line_left false core id said h = h
 
+done_left : (core : CoreState) (event : Event) → Stands core → Stands (done_by core event)
+done_left core (events.OpenControl id) h = record { reached = h.reached; held = h.held }
+done_left core (events.Line id text) h = line_left (is_open core.sessions id) core id (command_of text) h
+done_left core (events.Bad id refusal) h = h
+done_left core (events.CloseControl id) h = record { reached = h.reached; held = h.held }
+done_left core (events.OpenData id options) h = record { reached = h.reached; held = h.held }
+done_left core (events.Take id) h = record { reached = h.reached; held = h.held }
+done_left core (events.CloseData id) h = record { reached = h.reached; held = h.held }
+done_left core (events.Advance to most) h = ticks_left (to - core.box.stands.tick) core h
+
+-- the mark
+standing_left : (event : Event) (core : CoreState) → Stands core → Stands (with_mark event core)
+standing_left (events.Advance to most) core h = h
+standing_left event core h = record { reached = h.reached; held = h.held }
+
 event_left : (core : CoreState) (event : Event) → Stands core → Stands (after core event)
-event_left core (events.OpenControl id) h = record { reached = h.reached; held = h.held }
-event_left core (events.Line id text) h = line_left (is_open core.sessions id) core id (command_of text) h
-event_left core (events.Bad id refusal) h = h
-event_left core (events.CloseControl id) h = record { reached = h.reached; held = h.held }
-event_left core (events.OpenData id options) h = record { reached = h.reached; held = h.held }
-event_left core (events.Take id) h = record { reached = h.reached; held = h.held }
-event_left core (events.CloseData id) h = record { reached = h.reached; held = h.held }
-event_left core (events.Advance to) h = ticks_left (to - core.box.stands.tick) core h
+event_left core event h = standing_left event (done_by core event) (done_left core event h)
 
 all_left : (core : CoreState) (happened : List Event) → Stands core → Stands (after_all core happened)
 all_left core [] h = h
@@ -276,3 +284,7 @@ are_set core h =
 pub muxes_set : (rows : List Row) (happened : List Event) → MuxesAreSet (after_all (opening rows) happened)
 muxes_set rows happened =
     are_set (after_all (opening rows) happened) (all_left (opening rows) happened (record { reached = at_first; held = holds_first }))
+
+-- so there are 35 blocks, whatever happened
+pub blocks_are_35 : (rows : List Row) (happened : List Event) → length (after_all (opening rows) happened).box.stands.blocks ≡ 35
+blocks_are_35 rows happened = (all_left (opening rows) happened (record { reached = at_first; held = holds_first })).held.many

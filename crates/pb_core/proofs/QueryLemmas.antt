@@ -9,7 +9,7 @@ use Rattle.pb_core.specs.declared.events.Answer.TheVariants as answers
 use Rattle.pb_core.specs.declared.targets.Named.{Named}
 use Rattle.pb_core.specs.declared.targets.Named.TheVariants as names
 use Rattle.pb_core.specs.Core.{CoreState}
-use Rattle.pb_core.specs.Kept.{KeptCore, Agrees}
+use Rattle.pb_core.specs.Kept.{KeptCore, box_of, Agrees}
 use Rattle.pb_core.specs.Naming.{named_by}
 use Rattle.pb_core.specs.Sessions.{open_of}
 use Rattle.pb_core.specs.Queries.{named_reply}
@@ -27,11 +27,11 @@ asked_reply core id target named e =
 
 -- and by what is kept too
 pub kept_reply : (kept : KeptCore) (core : CoreState) (id : ℕ) (target : List ℕ) (named : Named) → Agrees kept core → named_by target ≡ Ok named →
-    replied (named_reply kept.config.settings (stands_of kept.box) (open_of kept.sessions) core.acquisitions (reports_to core id) named)
+    replied (named_reply kept.config.settings (stands_of (box_of kept)) (open_of kept.sessions) core.acquisitions (reports_to core id) named)
     ≡ line_answer core id (Query target)
 kept_reply kept core id target named h e =
-    ap (λ s. replied (named_reply s (stands_of kept.box) (open_of kept.sessions) core.acquisitions (reports_to core id) named)) h.settings
-    ∙ (ap (λ b. replied (named_reply core.settings b (open_of kept.sessions) core.acquisitions (reports_to core id) named)) h.box.stands
+    ap (λ s. replied (named_reply s (stands_of (box_of kept)) (open_of kept.sessions) core.acquisitions (reports_to core id) named)) h.settings
+    ∙ (ap (λ b. replied (named_reply core.settings b (open_of kept.sessions) core.acquisitions (reports_to core id) named)) h.run.box.stands
     ∙ (ap (λ o. replied (named_reply core.settings core.box.stands o core.acquisitions (reports_to core id) named)) (same_open kept.sessions core.sessions h.sessions)
     ∙ asked_reply core id target named e))
 

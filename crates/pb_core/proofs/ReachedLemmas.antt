@@ -28,7 +28,7 @@ use Rattle.pb_changes.specs.declared.Group.{Group}
 use Rattle.pb_changes.specs.declared.Group.TheVariants as groups
 use Rattle.pb_core.specs.Assignments.{given, gives, captures, resets, reset_given, named_given}
 use Rattle.pb_core.specs.Writing.{Written, table_write}
-use Rattle.pb_core.specs.Answer.{left_by, written_by, asked_of, said_after, after, after_all}
+use Rattle.pb_core.specs.Answer.{left_by, written_by, asked_of, said_after, done_by, with_mark, after, after_all}
 
 -- where a value is named, it is a slot
 
@@ -183,10 +183,17 @@ line_left : (is_there : Bool) (core : CoreState) (id : ℕ) (said : Said) → Is
 line_left true core id said h = said_left core id said h
 line_left false core id said h = h
 
+done_left : (core : CoreState) (event : Event) → IsReached core.settings → IsReached (done_by core event).settings
+done_left core (events.Line id text) h = line_left (is_open core.sessions id) core id (command_of text) h
+done_left core (events.Advance to most) h = ticks_left (to - core.box.stands.tick) core h
+done_left core event h = h
+
+standing_left : (event : Event) (core : CoreState) → IsReached core.settings → IsReached (with_mark event core).settings
+standing_left (events.Advance to most) core h = h
+standing_left event core h = h
+
 event_left : (core : CoreState) (event : Event) → IsReached core.settings → IsReached (after core event).settings
-event_left core (events.Line id text) h = line_left (is_open core.sessions id) core id (command_of text) h
-event_left core (events.Advance to) h = ticks_left (to - core.box.stands.tick) core h
-event_left core event h = h
+event_left core event h = standing_left event (done_by core event) (done_left core event h)
 
 all_left : (core : CoreState) (happened : List Event) → IsReached core.settings → IsReached (after_all core happened).settings
 all_left core [] h = h

@@ -1,5 +1,5 @@
 -- Tables: which slots are theirs, and what a table write leaves of a core.
-use Rattle.std.proofs.Common.{◌≡◌, ℕ, ◌-◌, ◌<◌, ◌≤◌, ◌||◌, ◌==◌, ℤ, Bool, true, false, leb, List, length, get_or, set, Option, Some, None, Result, Ok, Err, slice_index_or, refl, sym, ap, subst, ◌∙◌, arith}
+use Rattle.std.proofs.Common.{◌≡◌, ℕ, ◌-◌, ◌<◌, ◌≤◌, ◌||◌, ◌==◌, Bool, true, false, leb, List, length, get_or, set, Option, Some, None, Result, Ok, Err, slice_index_or, refl, sym, ap, subst, ◌∙◌, arith}
 use Rattle.std.specs.Prelude.{if◌then◌else◌}
 use Rattle.std.specs.List.{list_all}
 use Rattle.std.proofs.lemmas.Bool.{eqb-true, leb-true}
@@ -20,7 +20,6 @@ use Rattle.pb_fields.specs.Places.{count_of, fields_of, type_of}
 use Rattle.pb_fields.specs.Slots.{IsSlot, type_at, attributes_at, attribute_at, role_at}
 use Rattle.pb_fields.proofs.RowLemmas.{all_within}
 use Rattle.pb_config.specs.Settings.{Settings}
-use Rattle.pb_config.specs.KeptConfig.{with_note}
 use Rattle.pb_config.proofs.KindLemmas.{which, unlike}
 use Rattle.pb_config.proofs.TextLemmas.{all_of, at_each}
 use Rattle.pb_tables.specs.Computed.{answer_of}
@@ -30,18 +29,13 @@ use Rattle.pb_model.specs.declared.Unit.{Unit as AnyUnit}
 use Rattle.pb_model.specs.Arming.{capture, with_unit}
 use Rattle.pb_model.specs.Machines.{machines, place_in, with_named}
 use Rattle.pb_model.specs.Tick.{opening_block}
-use Rattle.pb_model.specs.Kept.{Kept}
 use Rattle.pb_model.specs.Settings.{block_of_slot}
-use Rattle.pb_model.specs.Tables.{sequencer, block_with_words, blocks_with_table, table_left}
+use Rattle.pb_model.specs.Tables.{sequencer, block_with_words, blocks_with_table}
 use Rattle.pb_model.proofs.PlaceLemmas.{machines_are_many, named_is_set}
 use Rattle.pb_model.proofs.TableLemmas.{two_sequencers}
 use Rattle.pb_core.specs.declared.events.Answer.TheVariants as answers
-use Rattle.pb_stim.specs.declared.Row.{Row}
-use Rattle.pb_core.specs.Current.{IsCurrent}
-use Rattle.pb_core.specs.Kept.{KeptCore}
 use Rattle.pb_core.specs.Writing.{left_to, is_table_by, is_table}
 use Rattle.pb_core.specs.Answer.{done}
-use Rattle.pb_core.specs.Helpers.{kept_written_by}
 use Rattle.pb_core.proofs.MuxLemmas.{Holds, all_set, keeps_list}
 
 -- A table and its attributes belong to a sequencer.
@@ -125,25 +119,6 @@ pub table_refused : (left : Result (List ℕ) Refusal) (slot : Slot) (refusal : 
     answers.Error refusal ≡ done (result_map (left_to slot) left)
 table_refused (Ok words) slot refusal e = absurd (cc)
 table_refused (Err other) slot refusal e = let same : refusal ≡ other = cc in ap answers.Error same
-
-pub table_kept : (core : KeptCore) (slot : Slot) (left : Result (List ℕ) Refusal) → Ok tt ≡ answer_of left →
-    record core { config = with_note core.config slot; box = table_left core.box slot.instance left } ≡ kept_written_by core (result_map (left_to slot) left)
-table_kept core slot (Ok words) e = refl
-table_kept core slot (Err refusal) e = absurd (cc)
-
-pub table_same : (core : KeptCore) (slot : Slot) (left : Result (List ℕ) Refusal) (refusal : Refusal) → Err refusal ≡ answer_of left →
-    record core { box = table_left core.box slot.instance left } ≡ kept_written_by core (result_map (left_to slot) left)
-table_same core slot (Ok words) refusal e = absurd (cc)
-table_same core slot (Err other) refusal e = refl
-
-pub table_tick : (kept : Kept) (number : ℕ) (left : Result (List ℕ) Refusal) → (table_left kept number left).tick ≡ kept.tick
-table_tick kept number (Ok words) = refl
-table_tick kept number (Err refusal) = refl
-
-pub table_current : (rows : List Row) (place : ℕ) (values : List ℤ) (kept : Kept) (number : ℕ) (left : Result (List ℕ) Refusal) →
-    IsCurrent rows place values kept.tick → IsCurrent rows place values (table_left kept number left).tick
-table_current rows place values kept number (Ok words) h = h
-table_current rows place values kept number (Err refusal) h = h
 
 -- the muxes stay as they are
 pub holds_table : (settings : Settings) (blocks : List Block) (number : ℕ) (words : List ℕ) → Holds settings blocks →

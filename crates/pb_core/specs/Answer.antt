@@ -1,5 +1,5 @@
 -- One event: what it answers, and what it leaves.
-use Rattle.std.specs.Prelude.{◌≡◌, ℕ, ◌-◌, ◌<◌, ◌≤◌, ◌^◌, Bool, true, if◌then◌else◌, max, List, [], ◌∷◌, Option, Some, None, Result, Ok, Err, codes}
+use Rattle.std.specs.Prelude.{◌≡◌, ℕ, ◌-◌, ◌<◌, ◌≤◌, ◌^◌, Bool, if◌then◌else◌, max, List, [], ◌∷◌, Option, Some, None, Result, Ok, Err, codes}
 use Rattle.pb_words.specs.declared.Refusal.{Refusal}
 use Rattle.pb_words.specs.Refusals.{line_of}
 use Rattle.pb_grammar.specs.Grammar.{Said, Query, Assign, Table, Echo, Bad, command_of}
@@ -10,16 +10,17 @@ use Rattle.pb_core.specs.declared.events.Answer.{Answer}
 use Rattle.pb_core.specs.declared.events.Answer.TheVariants as answers
 use Rattle.pb_model.specs.Tick.{Standing}
 use Rattle.pb_config.specs.Settings.{Settings}
-pub use Rattle.pb_core.specs.Core.{CoreState, opening, with_sessions, with_acquisitions, ticks_of_core}
+use Rattle.pb_still.specs.Eventful.{Run}
+use Rattle.pb_going.specs.Advanced.{EndsBy}
+use Rattle.pb_going.specs.declared.Why.{Why}
+pub use Rattle.pb_core.specs.Core.{CoreState, opening, moment_of, marked, with_sessions, with_acquisitions, ticks_of_core}
 use Rattle.pb_changes.specs.declared.Group.{Group}
 use Rattle.pb_changes.specs.Report as changes
 use Rattle.pb_core.specs.Sessions.{IsSession, is_open, open_of, with_session, told_if_open, opened_answer, opened_by, taken_answer}
 use Rattle.pb_encode.specs.Choosing.{options_of}
 use Rattle.pb_acquire.specs.Taking.{closed, after_take}
-use Rattle.pb_core.specs.declared.events.Why.TheVariants as whys
+use Rattle.pb_going.specs.declared.Why.TheVariants as whys
 use Rattle.pb_acquire.specs.Acquisitions.{AllAcquisitions}
-use Rattle.pb_buses.specs.Rules.{is_record}
-use Rattle.pb_model.specs.Tick.{emitted_of}
 use Rattle.pb_core.specs.Naming.{named_by}
 use Rattle.pb_core.specs.declared.targets.Named.{Named}
 use Rattle.pb_core.specs.declared.targets.Named.TheVariants as names
@@ -84,7 +85,8 @@ said_after core id (Bad refusal) = core
 abbrev pub advanced : CoreState → ℕ → CoreState
 advanced core to = ticks_of_core (to - core.box.stands.tick) core
 
--- what may happen: sessions have the ids 1 to 8, and the box goes to a tick below 2^62
+-- What may happen: sessions have the ids 1 to 8, and the box goes to a tick below 2^62, over at least one eventful tick if there
+-- is one.
 abbrev pub CanHappen : Event → Type 0
 CanHappen (events.OpenControl id) = IsSession id
 CanHappen (events.Line id text) = IsSession id
@@ -93,15 +95,15 @@ CanHappen (events.CloseControl id) = IsSession id
 CanHappen (events.OpenData id options) = IsSession id
 CanHappen (events.Take id) = IsSession id
 CanHappen (events.CloseData id) = IsSession id
-CanHappen (events.Advance to) = to < 2 ^ 62
+CanHappen (events.Advance to most) = (to < 2 ^ 62) × (1 ≤ most)
 
 -- what a command of a session that is open is answered
 abbrev pub line_answer : CoreState → ℕ → Said → Answer
 line_answer core id said =
     said_answer core.settings core.box.stands (open_of core.sessions) core.acquisitions (reports_to core id) said
 
--- What an event answers. A command, also one that was refused as it was put together, is answered to an open session
--- alone.
+-- What an event is answered. A command, also one that was refused as it was put together, is answered to an open session
+-- alone. Of an advance it is the answer where its eventful ticks don't end it.
 abbrev pub answer : CoreState → Event → Answer
 answer core (events.OpenControl id) = answers.Nothing
 answer core (events.Line id text) = told_if_open (is_open core.sessions id) (line_answer core id (command_of text))
@@ -110,27 +112,31 @@ answer core (events.CloseControl id) = answers.Nothing
 answer core (events.OpenData id options) = opened_answer (options_of options)
 answer core (events.Take id) = taken_answer core.acquisitions id
 answer core (events.CloseData id) = answers.Nothing
-answer core (events.Advance to) = answers.Reached (max core.box.stands.tick to) whys.Target
+answer core (events.Advance to most) = answers.Reached (max core.box.stands.tick to) whys.Target
 
 -- the core after a command of a session: only one that is open changes it
 abbrev pub left_if_open : CoreState → ℕ → Said → CoreState
 left_if_open core id said = if is_open core.sessions id then said_after core id said else core
 
+-- what an event does, but for the mark
+abbrev pub done_by : CoreState → Event → CoreState
+done_by core (events.OpenControl id) = with_sessions core (with_session id (Some changes.opening) core.sessions)
+done_by core (events.Line id text) = left_if_open core id (command_of text)
+done_by core (events.Bad id refusal) = core
+done_by core (events.CloseControl id) = with_sessions core (with_session id None core.sessions)
+done_by core (events.OpenData id options) = with_acquisitions core (opened_by id (options_of options) core.acquisitions)
+done_by core (events.Take id) = with_acquisitions core (after_take id core.acquisitions)
+done_by core (events.CloseData id) = with_acquisitions core (closed id core.acquisitions)
+done_by core (events.Advance to most) = advanced core to
+
+-- an event other than an advance stands at its tick, also where it is refused
+abbrev pub with_mark : Event → CoreState → CoreState
+with_mark (events.Advance to most) core = core
+with_mark event core = marked core
+
 -- the core after an event
 abbrev pub after : CoreState → Event → CoreState
-after core (events.OpenControl id) = with_sessions core (with_session id (Some changes.opening) core.sessions)
-after core (events.Line id text) = left_if_open core id (command_of text)
-after core (events.Bad id refusal) = core
-after core (events.CloseControl id) = with_sessions core (with_session id None core.sessions)
-after core (events.OpenData id options) = with_acquisitions core (opened_by id (options_of options) core.acquisitions)
-after core (events.Take id) = with_acquisitions core (after_take id core.acquisitions)
-after core (events.CloseData id) = with_acquisitions core (closed id core.acquisitions)
-after core (events.Advance to) = advanced core to
-
--- how many ticks of the box an event takes, from this tick on
-abbrev pub ticks_of : ℕ → Event → ℕ
-ticks_of now (events.Advance to) = to - now
-ticks_of now event = 0
+after core event = with_mark event (done_by core event)
 
 -- the core after these events, one after the other
 abbrev pub after_all : CoreState → List Event → CoreState
@@ -170,18 +176,26 @@ EventMayLack (events.Line id text) told = MayLack (command_of text) told
 EventMayLack (events.Take id) told = IsPiece told
 EventMayLack event told = ⊥
 
--- An advance may stop at a tick below its target: at one that emits a record, for which there is no memory.
-pub record StopsAt (core : CoreState) (to tick : ℕ) : Type 0 where
+-- An advance from now to a tick, over at most so many eventful ticks, ends at this tick for this reason: it is at its target; or
+-- it has stepped as many eventful ticks, and the next is eventful too; or there is no memory for the record that the next
+-- tick emits, which it would have stepped.
+pub record Reaches (core : CoreState) (to most tick : ℕ) (why : Why) : Type 0 where
   pub from_now : core.box.stands.tick ≤ tick
-  pub before : tick < to
-  pub emits : is_record (emitted_of (advanced core tick).box.stands) ≡ true
+  pub within : tick ≤ to
+  pub eventful : ℕ
+  pub busy : ℕ
+  pub run : Run (tick - core.box.stands.tick) (moment_of core) eventful busy
+  pub few : eventful ≤ most
+  pub ends : EndsBy why (moment_of (advanced core tick)) to most eventful
 
--- what an event may be answered: its answer, or that an advance stopped for want of memory
+-- What an event may be answered. The target of an advance is no tick below now.
 abbrev pub IsTold : CoreState → Event → Answer → Type 0
-IsTold core (events.Advance to) (answers.Reached tick whys.Memory) = StopsAt core to tick
+IsTold core (events.Advance to most) (answers.Reached tick why) =
+    Reaches core (max core.box.stands.tick to) most tick why
+IsTold core (events.Advance to most) told = ⊥
 IsTold core event told = told ≡ answer core event
 
 -- the core after an event that was answered so
 abbrev pub after_told : CoreState → Event → Answer → CoreState
-after_told core (events.Advance to) (answers.Reached tick whys.Memory) = advanced core tick
+after_told core (events.Advance to most) (answers.Reached tick why) = advanced core tick
 after_told core event told = after core event

@@ -12,7 +12,7 @@ line bytes = events.Line 1 bytes
 
 -- the core at this tick
 abbrev pub at_tick : ℕ → CoreState → CoreState
-at_tick tick core = after core (events.Advance tick)
+at_tick tick core = after core (events.Advance tick 1000)
 
 -- what a line is answered at this tick
 abbrev pub told : CoreState → ℕ → List ℕ → Answer

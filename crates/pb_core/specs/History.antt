@@ -1,7 +1,9 @@
 -- Histories: what happened to a core, and what came of it.
-use Rattle.std.specs.Prelude.{List, [], ◌∷◌, Result, Ok, Err, ⊤}
+use Rattle.std.specs.Prelude.{ℕ, ◌+◌, ◌≤◌, List, [], ◌∷◌, Result, Ok, Err, ⊤}
 use Rattle.pb_words.specs.declared.OutOfMemory.{OutOfMemory}
+use Rattle.pb_going.specs.Sims.{outdated}
 use Rattle.pb_core.specs.declared.events.Event.{Event}
+use Rattle.pb_core.specs.declared.events.Event.TheVariants as events
 use Rattle.pb_core.specs.declared.events.Answer.{Answer}
 use Rattle.pb_core.specs.declared.events.Answer.TheVariants as answers
 use Rattle.pb_core.specs.declared.servers.Entry.{Entry}
@@ -38,11 +40,22 @@ abbrev pub IsLegal : CoreState → List Entry → Type 0
 IsLegal core [] = ⊤
 IsLegal core (entry ∷ history) = IsNext core entry × IsLegal (after_entry core entry) history
 
+-- how many lines there are behind the last advance of a history; behind so many, where it has none
+abbrev pub one_line_more : Event → ℕ → ℕ
+one_line_more (events.Line id text) lines = lines + 1
+one_line_more (events.Advance to most) lines = 0
+one_line_more event lines = lines
+
+abbrev pub lines_behind : ℕ → List Entry → ℕ
+lines_behind lines [] = lines
+lines_behind lines (entry ∷ history) = lines_behind (one_line_more entry.event lines) history
+
 -- What is kept of a core stands for a history that is legal from the core on in which its stimulus began, and in which it ends: it agrees
--- with the core after it.
+-- with the core after it, and has at most as many outdated deadlines as there are lines behind its last advance.
 pub record StandsFor (kept : KeptCore) (history : List Entry) : Type 0 where
-  pub legal : IsLegal (opening kept.rows) history
-  pub agrees : Agrees kept (core_after (opening kept.rows) history)
+  pub legal : IsLegal (opening kept.sim.rows) history
+  pub agrees : Agrees kept (core_after (opening kept.sim.rows) history)
+  pub due : outdated kept.sim ≤ lines_behind 0 history
 
 -- What comes of events by their kinds.
 

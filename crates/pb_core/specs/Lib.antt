@@ -10,10 +10,10 @@ pub mod Telling
 pub mod Assignments
 pub mod Writing
 pub mod Helpers
+pub mod Taking
 pub mod Answer
+pub mod Costs
 pub mod History
-pub mod Stopping
-pub mod Current
 pub mod Examples
 pub mod Holding
 pub mod Muxes

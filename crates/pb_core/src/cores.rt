@@ -1,4 +1,4 @@
-ghost use Rattle.std.specs.Prelude.{◌≡◌, ◌<◌, ◌≤◌, ◌^◌, [], IfOk, IfErr};
+ghost use Rattle.std.specs.Prelude.{◌≡◌, ◌+◌, ◌<◌, ◌≤◌, ◌^◌, [], IfOk, IfErr};
 ghost use Rattle.pb_fields.specs.Slots.{role_at, kind_of};
 ghost use Rattle.pb_fields.specs.Values.{IsRaw};
 
@@ -8,33 +8,28 @@ mod setting;
 mod telling;
 
 use crate::events::Answer;
-use crate::placing::{put_rows, put_values};
 use crate::sessions::Sessions;
 use pb_acquire::Acquisitions;
 use pb_config::Config;
 use pb_fields::{Catalog, Role, Slot};
-use pb_model::BoxState;
+use pb_jump::Sim;
 use pb_stim::Stimulus;
 use pb_tables::Rows;
-use pb_words::Text;
+use pb_words::{Steps, Text};
 use std::alloc::Global;
 use std::marker::Model;
 use std::mem;
+use std::sync::ledger::Ledger;
 
-/// The box with its settings, its stimulus and its sessions, which events drive. A clause sees the rows, the settings with
-/// the numbers of the last assignments, what was last reported to the control sessions that are open, and what is kept of
-/// the box and of the acquisitions with their readers.
+/// The box with its settings, its stimulus and its sessions, which events drive. A clause sees the settings with the numbers of
+/// the last assignments, what was last reported to the control sessions that are open, and what is kept of the acquisitions with
+/// their readers and of the box, whose blocks stand at ticks of their own.
 #[derive(Drop)]
 pub struct Core {
     alloc: Global,
     catalog: Catalog,
     config: Config,
-    stimulus: Stimulus,
-    /// The place of the first row that comes after the box's tick.
-    place: usize,
-    /// The values of the ten targets of the stimulus at the box's tick.
-    values: [i32; 10],
-    state: BoxState,
+    sim: Sim,
     sessions: Sessions,
     acquisitions: Acquisitions,
     /// The memory of the last reply that was given back.
@@ -44,14 +39,14 @@ pub struct Core {
 impl Model for Core {
     ghost use Rattle.pb_core.specs.Kept.{KeptCore};
     ghost use Rattle.std.specs.Prelude.{◌≡◌, is_none};
-    ghost use Rattle.pb_core.specs.Current.{IsCurrent};
+    ghost use Rattle.pb_going.specs.Sims.{now_of};
     ghost use Rattle.pb_model.specs.Arming.{is_capture_idle};
 
     ghost Value = { KeptCore };
 
-    ghost view = { λ c. record { rows = c.stimulus; config = c.config; box = c.state; sessions = c.sessions; acquisitions = c.acquisitions } };
+    ghost view = { λ c. record { config = c.config; sim = c.sim; sessions = c.sessions; acquisitions = c.acquisitions } };
 
-    ghost invariant = { λ c. IsCurrent c.stimulus c.place c.values c.state.tick × (is_capture_idle c.state.blocks ≡ is_none c.acquisitions.running) };
+    ghost invariant = { λ c. is_capture_idle (now_of c.sim).blocks ≡ is_none c.acquisitions.running };
 }
 
 impl Core {
@@ -59,14 +54,16 @@ impl Core {
     ghost use Rattle.pb_names.specs.declared.seq.TheConstants as seq;
     ghost use Rattle.pb_model.specs.Settings.{read_of};
     ghost use Rattle.pb_model.specs.Tables.{table_of};
+    ghost use Rattle.pb_going.specs.Sims.{outdated};
     ghost use Rattle.pb_core.specs.Core.{CoreState, opening};
-    ghost use Rattle.pb_core.specs.Kept.{Agrees};
+    ghost use Rattle.pb_core.specs.Kept.{box_of, Agrees};
     ghost use Rattle.pb_core.specs.Sessions.{IsSession, is_open, is_reading};
 
     /// The core as it opens at tick 0. Where there is no memory for its catalogue, its settings or its box,
     /// the stimulus is handed back.
     pub fn new(alloc: Global, stimulus: Stimulus) -> Result<Core, Stimulus>
         ensures ok { IfOk result (λ core. Agrees core (opening stimulus)) }
+        ensures known { IfOk result (λ core. outdated core.sim ≡ 0) }
         ensures err { IfErr result (λ back. back ≡ stimulus) }
     {
         let Ok(catalog) = Catalog::new(alloc) else {
@@ -75,35 +72,29 @@ impl Core {
         let Ok(config) = Config::new(alloc) else {
             return Err(stimulus);
         };
-        let Ok(mut state) = BoxState::new(alloc) else {
-            return Err(stimulus);
-        };
         let Ok(acquisitions) = Acquisitions::new(alloc) else {
             return Err(stimulus);
         };
-        let mut values = [0; 10];
-        let place = put_rows(&stimulus, 0, &mut values, 0);
-        put_values(&mut state, &values);
-        Ok(Core {
-            alloc,
-            catalog,
-            config,
-            stimulus,
-            place,
-            values,
-            state,
-            sessions: Sessions::new(),
-            acquisitions,
-            spare: Text::new(alloc),
-        })
+        match Sim::new(alloc, stimulus) {
+            Ok(sim) => Ok(Core {
+                alloc,
+                catalog,
+                config,
+                sim,
+                sessions: Sessions::new(),
+                acquisitions,
+                spare: Text::new(alloc),
+            }),
+            Err(stimulus) => Err(stimulus),
+        }
     }
 
     /// The tick at which the box stands.
     pub fn now(&self) -> u64
-        ensures now { result ≡ self.now.box.tick }
+        ensures now { result ≡ self.now.sim.tick }
         ensures small { result < 2 ^ 62 }
     {
-        self.state.now()
+        self.sim.now()
     }
 
     /// Whether the control session of this id is open.
@@ -159,25 +150,28 @@ impl Core {
     pub(crate) fn table(&self, instance: u8) -> &Rows
         requires from_one { 1 ≤ instance }
         requires in_count { instance ≤ seq.INSTANCES }
-        ensures { result.now ≡ table_of self.now.box.blocks instance }
+        ensures { result.now ≡ table_of (box_of self.now).blocks instance }
     {
-        self.state.table(instance)
+        self.sim.table(instance)
     }
 
-    pub(crate) fn state(&self) -> &BoxState
-        ensures { result.now ≡ self.now.box }
+    pub(crate) fn sim(&self) -> &Sim
+        ensures { result.now ≡ self.now.sim }
     {
-        &self.state
+        &self.sim
     }
 
     /// The number that a block reports, or that of the label that it reports.
-    pub(crate) fn read(&self, slot: Slot) -> u64
+    pub(crate) fn read<L: Ledger>(&mut self, slot: Slot, steps: &mut Steps<L>) -> u64
         requires slot { IsSlot slot }
         requires read { role_at slot ≡ Role.Read }
-        ensures value { result ≡ read_of self.now.box.blocks slot }
+        ensures value { result ≡ read_of (box_of self.old).blocks slot }
         ensures in_range { IsRaw (kind_of slot) result }
+        ensures agrees { (core : CoreState) → Agrees self.old core → Agrees self.new core }
+        ensures outdated { outdated self.new.sim ≡ outdated self.old.sim }
+        ensures counts { steps.new ≤ steps.old + 1 }
     {
-        self.state.read(slot)
+        self.sim.peek(slot, steps)
     }
 
     pub(crate) fn settings(&self) -> &Config

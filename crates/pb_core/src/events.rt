@@ -1,5 +1,6 @@
 ghost use Rattle.std.specs.Prelude.{◌≡◌};
 
+use pb_jump::Why;
 use pb_words::{Refusal, Text};
 
 /// What may happen to the core. Sessions have the ids 1 to 8, control sessions and data sessions each.
@@ -19,17 +20,9 @@ pub enum Event {
     Take { id: u32 },
     /// A data session closes.
     CloseData { id: u32 },
-    /// The box is stepped up to this tick, which is below 2^62.
-    Advance { to: u64 },
-}
-
-/// Why an advance ended where it did.
-#[derive(Clone, Copy, Debug, PartialEq, Eq)]
-pub enum Why {
-    /// It was to go there, or the box had been there already.
-    Target,
-    /// That tick emits a record, for which there is no memory.
-    Memory,
+    /// The box is stepped up to this tick, which is below 2^62, or until it has stepped so many eventful ticks and the
+    /// next is eventful too. These are at least 1.
+    Advance { to: u64, most: u64 },
 }
 
 /// What the core answers to an event.

@@ -6,6 +6,7 @@ ghost use Rattle.pb_core.specs.declared.events.Answer.{Answer};
 ghost use Rattle.pb_core.specs.declared.events.Answer.TheVariants as answers;
 ghost use Rattle.pb_core.specs.declared.servers.Entry.{Entry};
 ghost use Rattle.pb_stim.specs.declared.Row.{Row};
+ghost use Rattle.pb_going.specs.Sims.{outdated};
 ghost use Rattle.pb_core.specs.Core.{CoreState, opening};
 ghost use Rattle.pb_core.specs.Kept.{KeptCore, Agrees};
 ghost use Rattle.pb_core.specs.History.{IsResult, IsNext, IsLegal, StandsFor, IsOpening, IsTaking, core_after};
@@ -19,7 +20,7 @@ pub fn histories_grow_by_an_entry()
 
 /// A core that has just opened stands for the empty history.
 pub fn cores_begin_with_no_history()
-    ensures { (kept : KeptCore) (rows : List Row) → Agrees kept (opening rows) → StandsFor kept [] }
+    ensures { (kept : KeptCore) (rows : List Row) → Agrees kept (opening rows) → outdated kept.sim ≡ 0 → StandsFor kept [] }
 {}
 
 /// What comes of an event fits its kind: only lines and takes may lack memory.

@@ -19,7 +19,7 @@ ghost use Rattle.pb_core.specs.declared.events.Answer.TheVariants as answers;
 ghost use Rattle.pb_core.specs.declared.events.Event.{Event};
 ghost use Rattle.pb_core.specs.declared.events.Event.TheVariants as events;
 ghost use Rattle.pb_stim.specs.declared.Row.{Row};
-ghost use Rattle.pb_core.specs.Core.{CoreState, opening};
+ghost use Rattle.pb_core.specs.Core.{CoreState, opening, marked};
 ghost use Rattle.pb_core.specs.Sessions.{is_open};
 ghost use Rattle.pb_core.specs.Holding.{HasSettings};
 ghost use Rattle.pb_core.specs.Muxes.{MuxesAreSet};
@@ -36,15 +36,16 @@ ghost use Rattle.pb_tables.specs.Computed.{written};
 ghost use Rattle.pb_model.specs.Tables.{table_of};
 ghost use Rattle.pb_core.specs.Answer.{answer, after, after_all, AsksForReport};
 
-/// An event that is refused leaves the core as it was, and so does one of a session that isn't open. A line that is
-/// answered by a reply does so too, unless it asks for a change report: then the core is as after that report.
+/// An event that is refused leaves the core as it was but for the mark that an event stood at now, and so does one of a session
+/// that isn't open. A line that is answered by a reply does so too, unless it asks for a change report: then the core is as
+/// after that report, with the mark.
 pub fn only_done_lines_change_the_core()
-    ensures refused { (core : CoreState) (event : Event) (refusal : Refusal) → answer core event ≡ answers.Error refusal → after core event ≡ core }
-    ensures closed { (core : CoreState) (event : Event) → answer core event ≡ answers.Closed → after core event ≡ core }
+    ensures refused { (core : CoreState) (event : Event) (refusal : Refusal) → answer core event ≡ answers.Error refusal → after core event ≡ marked core }
+    ensures closed { (core : CoreState) (event : Event) → answer core event ≡ answers.Closed → after core event ≡ marked core }
     ensures replied { (core : CoreState) (id : ℕ) (bytes reply : List ℕ)
         → answer core (events.Line id bytes) ≡ answers.Reply reply
-        → (after core (events.Line id bytes) ≡ core)
-        ⊎ ((group : Option Group) × AsksForReport (command_of bytes) group × (after core (events.Line id bytes) ≡ after_telling core id group)) }
+        → (after core (events.Line id bytes) ≡ marked core)
+        ⊎ ((group : Option Group) × AsksForReport (command_of bytes) group × (after core (events.Line id bytes) ≡ marked (after_telling core id group))) }
 {}
 
 /// First it counts whether the target names something, be it with a star, a listing or a slot; then

@@ -1,7 +1,7 @@
 //! The core: a box at a tick, driven by events, each with its answer. One event is
 //! defined in `specs/Answer.antt`, by what a query is answered (`specs/Queries.antt`)
 //! and what an assignment leaves (`specs/Assignments.antt`); one tick of the box in
-//! `specs/Tick.antt`.
+//! `specs/Tick.antt`, and what an event may cost in `specs/Costs.antt`.
 #![tactic(auto)]
 
 mod assignments;
@@ -13,10 +13,8 @@ mod faces;
 mod histories;
 mod laws;
 mod meanings;
-mod placing;
 mod queries;
 mod reading;
-mod recording;
 mod servers;
 mod sessions;
 mod showing;
@@ -26,7 +24,7 @@ mod who;
 mod writes;
 
 pub use cores::Core;
-pub use events::{Answer, Event, Why};
+pub use events::{Answer, Event};
 pub use examples::{
     input_is_seen_one_tick_later, lut_of_itself_toggles, readers_by_example,
     refused_lines_change_nothing, sessions_by_example,
@@ -39,4 +37,5 @@ pub use laws::{
     refusals_come_in_order, reports_show_what_queries_answer, settings_are_reached,
     the_box_has_the_settings, unknown_star_targets_are_no_fields,
 };
+pub use pb_jump::Why;
 pub use servers::{Entry, Server};

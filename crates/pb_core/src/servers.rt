@@ -49,7 +49,7 @@ impl Stands for Core {
 
     ghost Origin = { List Row };
 
-    ghost origin = { λ core. core.rows };
+    ghost origin = { λ core. core.sim.rows };
 
     ghost stands = { λ core history. StandsFor core history };
 }
@@ -57,7 +57,7 @@ impl Stands for Core {
 impl Server for Core {
     ghost use Rattle.pb_core.specs.Core as definition;
 
-    ghost opening = { λ core. definition.opening core.rows };
+    ghost opening = { λ core. definition.opening core.sim.rows };
 
     fn serve<L: Ledger>(
         &mut self,

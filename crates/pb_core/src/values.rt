@@ -1,9 +1,12 @@
-ghost use Rattle.std.specs.Prelude.{◌≡◌, ◌≤◌, [], None, Some, IfOk, OnErr, true};
+ghost use Rattle.std.specs.Prelude.{◌≡◌, ◌+◌, ◌≤◌, [], None, Some, IfOk, OnErr, true};
 ghost use Rattle.pb_fields.specs.Slots.{IsSlot, type_at, attribute_at};
 ghost use Rattle.pb_config.specs.Settings.{field_slot};
 ghost use Rattle.pb_config.specs.Showing.{is_line, scaled_shown};
 ghost use Rattle.pb_replies.specs.Replies.{value_reply};
 ghost use Rattle.pb_model.specs.Kept.{stands_of};
+ghost use Rattle.pb_going.specs.Sims.{outdated};
+ghost use Rattle.pb_core.specs.Core.{CoreState};
+ghost use Rattle.pb_core.specs.Kept.{box_of, Agrees};
 ghost use Rattle.pb_core.specs.Queries.{slot_reply};
 ghost use Rattle.pb_core.specs.Helpers.{is_reported};
 ghost use Rattle.pb_core.specs.Answer.{replied, IsReply};
@@ -17,32 +20,49 @@ use pb_names::pcap;
 use pb_replies::{
     base64_reply, labels_reply, number_reply, put_value, row_reply, table_reply, word_reply,
 };
-use pb_words::{OutOfMemory, Text};
+use pb_words::{OutOfMemory, Steps, Text};
+use std::sync::ledger::Ledger;
 
 /// The answer to the query of a field or an attribute. A reply of one value stands in this text, which has nothing yet.
-pub(crate) fn slot_answer(core: &Core, slot: Slot, text: Text) -> Result<Answer, OutOfMemory>
+pub(crate) fn slot_answer<L: Ledger>(
+    core: &mut Core,
+    slot: Slot,
+    text: Text,
+    steps: &mut Steps<L>,
+) -> Result<Answer, OutOfMemory>
     requires slot { IsSlot slot }
     requires empty { text ≡ [] }
-    ensures ok { IfOk result (λ told. told ≡ replied (slot_reply core.now.config.settings (stands_of core.now.box) slot)) }
-    ensures memory { OnErr result (IsReply (replied (slot_reply core.now.config.settings (stands_of core.now.box) slot))) }
+    ensures ok { IfOk result (λ told. told ≡ replied (slot_reply core.old.config.settings (stands_of (box_of core.old)) slot)) }
+    ensures memory { OnErr result (IsReply (replied (slot_reply core.old.config.settings (stands_of (box_of core.old)) slot))) }
+    ensures agrees { (state : CoreState) → Agrees core.old state → Agrees core.new state }
+    ensures outdated { outdated core.new.sim ≡ outdated core.old.sim }
+    ensures counts { steps.new ≤ steps.old + 1 }
 {
     match attribute(slot) {
-        None => field_answer(core, slot, text),
+        None => field_answer(core, slot, text, steps),
         Some(attribute) => attribute_answer(core, slot, attribute, text),
     }
 }
 
 /// The answer to the query of a field.
 #[tactic(auto, using(crate::proofs::TableLemmas::table_field))]
-fn field_answer(core: &Core, slot: Slot, text: Text) -> Result<Answer, OutOfMemory>
+fn field_answer<L: Ledger>(
+    core: &mut Core,
+    slot: Slot,
+    text: Text,
+    steps: &mut Steps<L>,
+) -> Result<Answer, OutOfMemory>
     requires slot { IsSlot slot }
     requires empty { text ≡ [] }
     requires field { attribute_at slot ≡ None }
-    ensures ok { IfOk result (λ told. told ≡ replied (slot_reply core.now.config.settings (stands_of core.now.box) slot)) }
-    ensures memory { OnErr result (IsReply (replied (slot_reply core.now.config.settings (stands_of core.now.box) slot))) }
+    ensures ok { IfOk result (λ told. told ≡ replied (slot_reply core.old.config.settings (stands_of (box_of core.old)) slot)) }
+    ensures memory { OnErr result (IsReply (replied (slot_reply core.old.config.settings (stands_of (box_of core.old)) slot))) }
+    ensures agrees { (state : CoreState) → Agrees core.old state → Agrees core.new state }
+    ensures outdated { outdated core.new.sim ≡ outdated core.old.sim }
+    ensures counts { steps.new ≤ steps.old + 1 }
 {
     match field_type(slot) {
-        FieldType::ReadUint | FieldType::ReadEnum { .. } => read_answer(core, slot, text),
+        FieldType::ReadUint | FieldType::ReadEnum { .. } => read_answer(core, slot, text, steps),
         FieldType::BitOut => level_answer(core, slot, text),
         FieldType::PosOut => position_answer(core, slot, text),
         FieldType::Table => Ok(Answer::Reply(table_reply(
@@ -64,8 +84,8 @@ fn attribute_answer(
     requires slot { IsSlot slot }
     requires empty { text ≡ [] }
     requires which { attribute_at slot ≡ Some attribute }
-    ensures ok { IfOk result (λ told. told ≡ replied (slot_reply core.now.config.settings (stands_of core.now.box) slot)) }
-    ensures memory { OnErr result (IsReply (replied (slot_reply core.now.config.settings (stands_of core.now.box) slot))) }
+    ensures ok { IfOk result (λ told. told ≡ replied (slot_reply core.now.config.settings (stands_of (box_of core.now)) slot)) }
+    ensures memory { OnErr result (IsReply (replied (slot_reply core.now.config.settings (stands_of (box_of core.now)) slot))) }
 {
     match attribute {
         Attribute::Labels => Ok(Answer::Reply(labels_reply(core.alloc(), field_slot(slot))?)),
@@ -86,8 +106,8 @@ fn attribute_answer(
 fn length_answer(core: &Core, slot: Slot) -> Result<Answer, OutOfMemory>
     requires slot { IsSlot slot }
     requires which { attribute_at slot ≡ Some Attribute.Length }
-    ensures ok { IfOk result (λ told. told ≡ replied (slot_reply core.now.config.settings (stands_of core.now.box) slot)) }
-    ensures memory { OnErr result (IsReply (replied (slot_reply core.now.config.settings (stands_of core.now.box) slot))) }
+    ensures ok { IfOk result (λ told. told ≡ replied (slot_reply core.now.config.settings (stands_of (box_of core.now)) slot)) }
+    ensures memory { OnErr result (IsReply (replied (slot_reply core.now.config.settings (stands_of (box_of core.now)) slot))) }
 {
     let length = core.table(slot.instance).len() as u64;
     Ok(Answer::Reply(number_reply(core.alloc(), length)?))
@@ -99,8 +119,8 @@ fn setting_answer(core: &Core, slot: Slot, text: Text) -> Result<Answer, OutOfMe
     requires slot { IsSlot slot }
     requires empty { text ≡ [] }
     requires line { is_line slot ≡ true }
-    ensures ok { IfOk result (λ told. told ≡ replied (slot_reply core.now.config.settings (stands_of core.now.box) slot)) }
-    ensures memory { OnErr result (IsReply (replied (slot_reply core.now.config.settings (stands_of core.now.box) slot))) }
+    ensures ok { IfOk result (λ told. told ≡ replied (slot_reply core.now.config.settings (stands_of (box_of core.now)) slot)) }
+    ensures memory { OnErr result (IsReply (replied (slot_reply core.now.config.settings (stands_of (box_of core.now)) slot))) }
 {
     let mut out = [0; ROOM];
     match core.settings().show(slot, &mut out) {
@@ -112,16 +132,24 @@ fn setting_answer(core: &Core, slot: Slot, text: Text) -> Result<Answer, OutOfMe
 /// What a block reports: a number, or a label.
 #[tactic(auto, using(crate::proofs::FieldLemmas::reported_read, crate::proofs::FieldLemmas::reported_shown))]
 #[inline(never)]
-fn read_answer(core: &Core, slot: Slot, text: Text) -> Result<Answer, OutOfMemory>
+fn read_answer<L: Ledger>(
+    core: &mut Core,
+    slot: Slot,
+    text: Text,
+    steps: &mut Steps<L>,
+) -> Result<Answer, OutOfMemory>
     requires slot { IsSlot slot }
     requires empty { text ≡ [] }
     requires field { attribute_at slot ≡ None }
     requires reported { is_reported (type_at slot) ≡ true }
-    ensures ok { IfOk result (λ told. told ≡ replied (slot_reply core.now.config.settings (stands_of core.now.box) slot)) }
-    ensures memory { OnErr result (IsReply (replied (slot_reply core.now.config.settings (stands_of core.now.box) slot))) }
+    ensures ok { IfOk result (λ told. told ≡ replied (slot_reply core.old.config.settings (stands_of (box_of core.old)) slot)) }
+    ensures memory { OnErr result (IsReply (replied (slot_reply core.old.config.settings (stands_of (box_of core.old)) slot))) }
+    ensures agrees { (state : CoreState) → Agrees core.old state → Agrees core.new state }
+    ensures outdated { outdated core.new.sim ≡ outdated core.old.sim }
+    ensures counts { steps.new ≤ steps.old + 1 }
 {
     let mut out = [0; ROOM];
-    let len = show(kind(slot), core.read(slot), &mut out);
+    let len = show(kind(slot), core.read(slot, steps), &mut out);
     shown_answer(text, &out[..len])
 }
 
@@ -132,10 +160,10 @@ fn level_answer(core: &Core, slot: Slot, text: Text) -> Result<Answer, OutOfMemo
     requires empty { text ≡ [] }
     requires field { attribute_at slot ≡ None }
     requires output { type_at slot ≡ FieldType.BitOut }
-    ensures ok { IfOk result (λ told. told ≡ replied (slot_reply core.now.config.settings (stands_of core.now.box) slot)) }
-    ensures memory { OnErr result (IsReply (replied (slot_reply core.now.config.settings (stands_of core.now.box) slot))) }
+    ensures ok { IfOk result (λ told. told ≡ replied (slot_reply core.now.config.settings (stands_of (box_of core.now)) slot)) }
+    ensures memory { OnErr result (IsReply (replied (slot_reply core.now.config.settings (stands_of (box_of core.now)) slot))) }
 {
-    shown_answer(text, level_shown(core.state(), slot))
+    shown_answer(text, level_shown(core.sim(), slot))
 }
 
 /// The value of a position.
@@ -146,11 +174,11 @@ fn position_answer(core: &Core, slot: Slot, text: Text) -> Result<Answer, OutOfM
     requires empty { text ≡ [] }
     requires field { attribute_at slot ≡ None }
     requires output { type_at slot ≡ FieldType.PosOut }
-    ensures ok { IfOk result (λ told. told ≡ replied (slot_reply core.now.config.settings (stands_of core.now.box) slot)) }
-    ensures memory { OnErr result (IsReply (replied (slot_reply core.now.config.settings (stands_of core.now.box) slot))) }
+    ensures ok { IfOk result (λ told. told ≡ replied (slot_reply core.now.config.settings (stands_of (box_of core.now)) slot)) }
+    ensures memory { OnErr result (IsReply (replied (slot_reply core.now.config.settings (stands_of (box_of core.now)) slot))) }
 {
     let mut out = [0; ROOM];
-    let len = show_position(core.state(), slot, &mut out);
+    let len = show_position(core.sim(), slot, &mut out);
     shown_answer(text, &out[..len])
 }
 
@@ -159,10 +187,10 @@ fn scaled_answer(core: &Core, slot: Slot, text: Text) -> Result<Answer, OutOfMem
     requires slot { IsSlot slot }
     requires empty { text ≡ [] }
     requires which { attribute_at slot ≡ Some Attribute.Scaled }
-    ensures ok { IfOk result (λ told. told ≡ replied (slot_reply core.now.config.settings (stands_of core.now.box) slot)) }
-    ensures memory { OnErr result (IsReply (replied (slot_reply core.now.config.settings (stands_of core.now.box) slot))) }
+    ensures ok { IfOk result (λ told. told ≡ replied (slot_reply core.now.config.settings (stands_of (box_of core.now)) slot)) }
+    ensures memory { OnErr result (IsReply (replied (slot_reply core.now.config.settings (stands_of (box_of core.now)) slot))) }
 {
-    scaled_number_answer(core, slot, position(core.state(), slot), text)
+    scaled_number_answer(core, slot, position(core.sim(), slot), text)
 }
 
 /// The value times SCALE of the slot's position, plus its OFFSET.

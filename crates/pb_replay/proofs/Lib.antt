@@ -21,3 +21,9 @@ pub mod CopiedRows
 pub mod ReadersPlayed
 pub mod NewlineLemmas
 pub mod HeadLemmas
+pub mod CountingLemmas
+pub mod TurnLemmas
+pub mod TallyLemmas
+pub mod MarkedLines
+pub mod FirstTick
+pub mod ScriptLemmas

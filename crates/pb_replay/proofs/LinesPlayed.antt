@@ -8,11 +8,11 @@ use Rattle.pb_core.specs.Answer.{CoreState, after, after_all}
 use Rattle.pb_core.specs.Kept.{KeptCore, Agrees}
 use Rattle.pb_core.specs.Sessions.{is_open, is_reading}
 use Rattle.pb_core.proofs.MarkLemmas.{open_same}
-use Rattle.pb_replay.specs.declared.played.Played.{Played}
-use Rattle.pb_replay.specs.declared.played.Played.TheVariants as ends
+use Rattle.pb_replay.specs.declared.played.Told.{Told}
+use Rattle.pb_replay.specs.declared.played.Told.TheVariants as ends
 use Rattle.pb_replay.specs.Script.{Timed, Command, OpenData}
 use Rattle.pb_grammar.specs.Feeding.{Kept, Completed, HasWhole}
-use Rattle.pb_replay.specs.Events.{waits_of, with_line, opened_for, sent, at_tick, closed_for, events_of}
+use Rattle.pb_replay.specs.Events.{going_to, waits_of, with_line, opened_for, sent, at_tick, closed_for, events_of}
 use Rattle.pb_replay.specs.Output.{written, sections}
 use Rattle.pb_replay.specs.Pending.{PlaysOn}
 use Rattle.pb_replay.specs.Waiting.{AreFed, kept_of}
@@ -27,7 +27,7 @@ own tick session there whole bytes =
 
 -- The session is open, and the line completes a command.
 pub next_command : (P : List Event → Type 0) (core : CoreState) (waiting : List (List ℕ)) (tick session : ℕ) (text : List ℕ) → is_open core.sessions session ≡ true → is_whole (with_line (waits_of waiting session) text) ≡ true →
-    P (events.Advance tick ∷ sent session (with_line (waits_of waiting session) text) ∷ []) → P (events_of core waiting (Timed tick (Command session text)))
+    P (going_to tick ∷ sent session (with_line (waits_of waiting session) text) ∷ []) → P (events_of core waiting (Timed tick (Command session text)))
 next_command P core waiting tick session text there whole h =
     let bytes : List ℕ = with_line (waits_of waiting session) text in
     subst (λ b. P (own tick session b (is_whole bytes) bytes)) (sym there)
@@ -43,7 +43,7 @@ next_none P core waiting tick session text there whole h =
 
 -- The session isn't open, and the line completes a command.
 pub first_command : (P : List Event → Type 0) (core : CoreState) (waiting : List (List ℕ)) (tick session : ℕ) (text : List ℕ) → is_open core.sessions session ≡ false → is_whole (with_line (waits_of waiting session) text) ≡ true →
-    P (events.Advance tick ∷ events.OpenControl session ∷ sent session (with_line (waits_of waiting session) text) ∷ []) → P (events_of core waiting (Timed tick (Command session text)))
+    P (going_to tick ∷ events.OpenControl session ∷ sent session (with_line (waits_of waiting session) text) ∷ []) → P (events_of core waiting (Timed tick (Command session text)))
 first_command P core waiting tick session text there whole h =
     let bytes : List ℕ = with_line (waits_of waiting session) text in
     subst (λ b. P (own tick session b (is_whole bytes) bytes)) (sym there)
@@ -51,7 +51,7 @@ first_command P core waiting tick session text there whole h =
 
 -- it completes none
 pub first_none : (P : List Event → Type 0) (core : CoreState) (waiting : List (List ℕ)) (tick session : ℕ) (text : List ℕ) → is_open core.sessions session ≡ false → is_whole (with_line (waits_of waiting session) text) ≡ false →
-    P (events.Advance tick ∷ events.OpenControl session ∷ []) → P (events_of core waiting (Timed tick (Command session text)))
+    P (going_to tick ∷ events.OpenControl session ∷ []) → P (events_of core waiting (Timed tick (Command session text)))
 first_none P core waiting tick session text there whole h =
     let bytes : List ℕ = with_line (waits_of waiting session) text in
     subst (λ b. P (own tick session b (is_whole bytes) bytes)) (sym there)
@@ -60,40 +60,40 @@ first_none P core waiting tick session text there whole h =
 -- A data session opens: one that is open closes before.
 abbrev opening_of : (tick session : ℕ) (options : List ℕ) (there : Bool) → List Event
 opening_of tick session options there =
-    events.Advance tick ∷ (closed_for there session ++ events.OpenData session options ∷ [])
+    going_to tick ∷ (closed_for there session ++ events.OpenData session options ∷ [])
 
 pub opened_again : (P : List Event → Type 0) (core : CoreState) (waiting : List (List ℕ)) (tick session : ℕ) (options : List ℕ) → is_reading core.acquisitions session ≡ true →
-    P (events.Advance tick ∷ events.CloseData session ∷ events.OpenData session options ∷ []) → P (events_of core waiting (Timed tick (OpenData session options)))
+    P (going_to tick ∷ events.CloseData session ∷ events.OpenData session options ∷ []) → P (events_of core waiting (Timed tick (OpenData session options)))
 opened_again P core waiting tick session options there h = subst (λ b. P (opening_of tick session options b)) (sym there) h
 
 pub opened_new : (P : List Event → Type 0) (core : CoreState) (waiting : List (List ℕ)) (tick session : ℕ) (options : List ℕ) → is_reading core.acquisitions session ≡ false →
-    P (events.Advance tick ∷ events.OpenData session options ∷ []) → P (events_of core waiting (Timed tick (OpenData session options)))
+    P (going_to tick ∷ events.OpenData session options ∷ []) → P (events_of core waiting (Timed tick (OpenData session options)))
 opened_new P core waiting tick session options there h = subst (λ b. P (opening_of tick session options b)) (sym there) h
 
 -- The last event of a line is the only one that writes.
-pub last_writes : (bytes p q : List ℕ) (end : Played) (old now : Option (List ℕ)) → PlaysOn bytes end p old q now → PlaysOn (bytes ++ []) end p old q now
+pub last_writes : (bytes p q : List ℕ) (end : Told) (old now : Option (List ℕ)) → PlaysOn bytes end p old q now → PlaysOn (bytes ++ []) end p old q now
 last_writes bytes p q end old now h = subst (λ b. PlaysOn b end p old q now) (sym (append-nil bytes)) h
 
 -- So of a line of a session that is open.
 
 -- a session is open in a core where it is in what is kept of that
-open_as : (state : CoreState) (kept : KeptCore) (session : ℕ) (there : Bool) → Agrees kept state → is_open kept.sessions session ≡ there → is_open state.sessions session ≡ there
+pub open_as : (state : CoreState) (kept : KeptCore) (session : ℕ) (there : Bool) → Agrees kept state → is_open kept.sessions session ≡ there → is_open state.sessions session ≡ there
 open_as state kept session there agrees h = sym (open_same kept.sessions state.sessions session agrees.sessions) ∙ h
 
 -- its command is written
-pub next_plays : (state : CoreState) (kept : KeptCore) (waiting : List (List ℕ)) (tick session : ℕ) (text : List ℕ) (end : Played) (before p q : List ℕ) (old now : Option (List ℕ)) →
+pub next_plays : (state : CoreState) (kept : KeptCore) (waiting : List (List ℕ)) (tick session : ℕ) (text : List ℕ) (end : Told) (before p q : List ℕ) (old now : Option (List ℕ)) →
     Agrees kept state → is_open kept.sessions session ≡ true → is_whole (with_line (waits_of waiting session) text) ≡ true → p ≡ before →
-    PlaysOn (written (after state (events.Advance tick)) (sent session (with_line (waits_of waiting session) text))) end p old q now →
+    PlaysOn (written (after state (going_to tick)) (sent session (with_line (waits_of waiting session) text))) end p old q now →
     PlaysOn (sections state (events_of state waiting (Timed tick (Command session text)))) end before old q now
 next_plays state kept waiting tick session text end before p q old now agrees there whole same h =
-    let writes : List ℕ = written (after state (events.Advance tick)) (sent session (with_line (waits_of waiting session) text)) in
+    let writes : List ℕ = written (after state (going_to tick)) (sent session (with_line (waits_of waiting session) text)) in
     next_command (λ all. PlaysOn (sections state all) end before old q now) state waiting tick session text (open_as state kept session true agrees there) whole
     (subst (λ b. PlaysOn (writes ++ []) end b old q now) same (last_writes writes p q end old now h))
 
 -- and leaves this
 pub next_leaves : (state : CoreState) (kept next : KeptCore) (waiting : List (List ℕ)) (tick session : ℕ) (text : List ℕ) →
     Agrees kept state → is_open kept.sessions session ≡ true → is_whole (with_line (waits_of waiting session) text) ≡ true →
-    Agrees next (after (after state (events.Advance tick)) (sent session (with_line (waits_of waiting session) text))) →
+    Agrees next (after (after state (going_to tick)) (sent session (with_line (waits_of waiting session) text))) →
     Agrees next (after_all state (events_of state waiting (Timed tick (Command session text))))
 next_leaves state kept next waiting tick session text agrees there whole h =
     next_command (λ all. Agrees next (after_all state all)) state waiting tick session text (open_as state kept session true agrees there) whole h
@@ -115,18 +115,18 @@ next_leaves_none state kept waiting tick session text agrees there none =
 
 -- And of one of a session that opens with it.
 
-pub first_plays : (state : CoreState) (kept : KeptCore) (waiting : List (List ℕ)) (tick session : ℕ) (text : List ℕ) (end : Played) (before p q : List ℕ) (old now : Option (List ℕ)) →
+pub first_plays : (state : CoreState) (kept : KeptCore) (waiting : List (List ℕ)) (tick session : ℕ) (text : List ℕ) (end : Told) (before p q : List ℕ) (old now : Option (List ℕ)) →
     Agrees kept state → is_open kept.sessions session ≡ false → is_whole (with_line (waits_of waiting session) text) ≡ true → p ≡ before →
-    PlaysOn (written (after (after state (events.Advance tick)) (events.OpenControl session)) (sent session (with_line (waits_of waiting session) text))) end p old q now →
+    PlaysOn (written (after (after state (going_to tick)) (events.OpenControl session)) (sent session (with_line (waits_of waiting session) text))) end p old q now →
     PlaysOn (sections state (events_of state waiting (Timed tick (Command session text)))) end before old q now
 first_plays state kept waiting tick session text end before p q old now agrees there whole same h =
-    let writes : List ℕ = written (after (after state (events.Advance tick)) (events.OpenControl session)) (sent session (with_line (waits_of waiting session) text)) in
+    let writes : List ℕ = written (after (after state (going_to tick)) (events.OpenControl session)) (sent session (with_line (waits_of waiting session) text)) in
     first_command (λ all. PlaysOn (sections state all) end before old q now) state waiting tick session text (open_as state kept session false agrees there) whole
     (subst (λ b. PlaysOn (writes ++ []) end b old q now) same (last_writes writes p q end old now h))
 
 pub first_leaves : (state : CoreState) (kept next : KeptCore) (waiting : List (List ℕ)) (tick session : ℕ) (text : List ℕ) →
     Agrees kept state → is_open kept.sessions session ≡ false → is_whole (with_line (waits_of waiting session) text) ≡ true →
-    Agrees next (after (after (after state (events.Advance tick)) (events.OpenControl session)) (sent session (with_line (waits_of waiting session) text))) →
+    Agrees next (after (after (after state (going_to tick)) (events.OpenControl session)) (sent session (with_line (waits_of waiting session) text))) →
     Agrees next (after_all state (events_of state waiting (Timed tick (Command session text))))
 first_leaves state kept next waiting tick session text agrees there whole h =
     first_command (λ all. Agrees next (after_all state all)) state waiting tick session text (open_as state kept session false agrees there) whole h
@@ -140,7 +140,7 @@ first_plays_none state kept waiting tick session text before p old agrees there 
 
 pub first_leaves_none : (state : CoreState) (kept next : KeptCore) (waiting : List (List ℕ)) (tick session : ℕ) (text : List ℕ) →
     Agrees kept state → is_open kept.sessions session ≡ false → is_whole (with_line (waits_of waiting session) text) ≡ false →
-    Agrees next (after (after state (events.Advance tick)) (events.OpenControl session)) →
+    Agrees next (after (after state (going_to tick)) (events.OpenControl session)) →
     Agrees next (after_all state (events_of state waiting (Timed tick (Command session text))))
 first_leaves_none state kept next waiting tick session text agrees there none h =
     first_none (λ all. Agrees next (after_all state all)) state waiting tick session text (open_as state kept session false agrees there) none h

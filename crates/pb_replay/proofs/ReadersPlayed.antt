@@ -6,10 +6,10 @@ use Rattle.pb_core.specs.declared.Event.TheVariants as events
 use Rattle.pb_core.specs.Answer.{CoreState, answer, after, after_all}
 use Rattle.pb_core.specs.Kept.{KeptCore, Agrees}
 use Rattle.pb_core.specs.Sessions.{is_reading, session_ids}
-use Rattle.pb_replay.specs.declared.played.Played.{Played}
-use Rattle.pb_replay.specs.declared.played.Played.TheVariants as ends
+use Rattle.pb_replay.specs.declared.played.Told.{Told}
+use Rattle.pb_replay.specs.declared.played.Told.TheVariants as ends
 use Rattle.pb_replay.specs.Script.{Timed, OpenData, Take, End}
-use Rattle.pb_replay.specs.Events.{is_piece, takes_up_to, most_takes, takes_of, takes_of_all, events_of}
+use Rattle.pb_replay.specs.Events.{going_to, is_piece, takes_up_to, most_takes, takes_of, takes_of_all, events_of}
 use Rattle.pb_replay.specs.Output.{written, sections}
 use Rattle.pb_replay.specs.Pending.{PlaysOn}
 use Rattle.pb_replay.proofs.PendingLemmas.{plays_on_twice, plays_on_break}
@@ -80,7 +80,7 @@ next_taken i session s lt = split (is_piece (answer s (events.Take session))) re
     split false is = none_taken most_takes i session s lt is
 
 -- it broke off there
-pub pieces_break : (end : Played) (i session : ℕ) (state : CoreState) (all : List Event) (core : KeptCore) (p0 p q : List ℕ) (h0 h k : Option (List ℕ)) → end ≢ ends.Ok → i < 18446744073709551615 →
+pub pieces_break : (end : Told) (i session : ℕ) (state : CoreState) (all : List Event) (core : KeptCore) (p0 p q : List ℕ) (h0 h k : Option (List ℕ)) → end ≢ ends.Ok → i < 18446744073709551615 →
     Comes state all core (left_after i session) p0 p h0 h → ((s : CoreState) → Agrees core s → PlaysOn (written s (events.Take session)) end p h q k) →
     PlaysOn (sections state all) end p0 h0 q k
 pieces_break end i session state all core p0 p q h0 h k other lt c plays =
@@ -116,7 +116,7 @@ pub sessions_more : (id : ℕ) (state : CoreState) (all : List Event) (core next
 sessions_more id state all core next p0 p q h0 h k lt c plays leads =
     comes_more state all core next (left_from id) (left_from (id + 1)) (takes_it id) p0 p q h0 h k (λ s agrees. ids_more id s lt) c plays leads
 
-pub sessions_break : (end : Played) (id : ℕ) (state : CoreState) (all : List Event) (core : KeptCore) (p0 p q : List ℕ) (h0 h k : Option (List ℕ)) → end ≢ ends.Ok → id < 9 →
+pub sessions_break : (end : Told) (id : ℕ) (state : CoreState) (all : List Event) (core : KeptCore) (p0 p q : List ℕ) (h0 h k : Option (List ℕ)) → end ≢ ends.Ok → id < 9 →
     Comes state all core (left_from id) p0 p h0 h →
     ((s : CoreState) → Agrees core s → PlaysOn (sections s (takes_of s id)) end p h q k) → PlaysOn (sections state all) end p0 h0 q k
 sessions_break end id state all core p0 p q h0 h k other lt c plays =
@@ -129,23 +129,23 @@ sessions_over id s le = ids_none id s le
 
 -- at this tick
 abbrev pub at : CoreState → ℕ → CoreState
-at state tick = after state (events.Advance tick)
+at state tick = after state (going_to tick)
 
 -- and with this session closed
 abbrev pub closed_at : CoreState → ℕ → ℕ → CoreState
 closed_at state tick session = after (at state tick) (events.CloseData session)
 
-pub take_plays : (state : CoreState) (waiting : List (List ℕ)) (tick session : ℕ) (end : Played) (before p q : List ℕ) (h k : Option (List ℕ)) → p ≡ before →
+pub take_plays : (state : CoreState) (waiting : List (List ℕ)) (tick session : ℕ) (end : Told) (before p q : List ℕ) (h k : Option (List ℕ)) → p ≡ before →
     PlaysOn (written (at state tick) (events.Take session)) end p h q k → PlaysOn (sections state (events_of state waiting (Timed tick (Take session)))) end before h q k
 take_plays state waiting tick session end before p q h k same plays =
     subst (λ b. PlaysOn (written (at state tick) (events.Take session) ++ []) end b h q k) same (last_writes (written (at state tick) (events.Take session)) p q end h k plays)
 
-pub end_plays : (state : CoreState) (waiting : List (List ℕ)) (tick : ℕ) (end : Played) (before p q : List ℕ) (h k : Option (List ℕ)) → p ≡ before →
+pub end_plays : (state : CoreState) (waiting : List (List ℕ)) (tick : ℕ) (end : Told) (before p q : List ℕ) (h k : Option (List ℕ)) → p ≡ before →
     PlaysOn (sections (at state tick) (takes_of_all (at state tick) session_ids)) end p h q k → PlaysOn (sections state (events_of state waiting (Timed tick End))) end before h q k
 end_plays state waiting tick end before p q h k same plays =
     subst (λ b. PlaysOn (sections (at state tick) (takes_of_all (at state tick) session_ids)) end b h q k) same plays
 
-pub again_plays : (state : CoreState) (waiting : List (List ℕ)) (tick session : ℕ) (options : List ℕ) (end : Played) (before p q : List ℕ) (h k : Option (List ℕ)) → is_reading state.acquisitions session ≡ true → p ≡ before →
+pub again_plays : (state : CoreState) (waiting : List (List ℕ)) (tick session : ℕ) (options : List ℕ) (end : Told) (before p q : List ℕ) (h k : Option (List ℕ)) → is_reading state.acquisitions session ≡ true → p ≡ before →
     PlaysOn (written (closed_at state tick session) (events.OpenData session options)) end p h q k → PlaysOn (sections state (events_of state waiting (Timed tick (OpenData session options)))) end before h q k
 again_plays state waiting tick session options end before p q h k there same plays =
     opened_again (λ happened. PlaysOn (sections state happened) end before h q k) state waiting tick session options there
@@ -157,7 +157,7 @@ pub again_leaves : (state : CoreState) (waiting : List (List ℕ)) (tick session
 again_leaves state waiting tick session options core there leaves =
     opened_again (λ happened. Agrees core (after_all state happened)) state waiting tick session options there leaves
 
-pub new_plays : (state : CoreState) (waiting : List (List ℕ)) (tick session : ℕ) (options : List ℕ) (end : Played) (before p q : List ℕ) (h k : Option (List ℕ)) → is_reading state.acquisitions session ≡ false → p ≡ before →
+pub new_plays : (state : CoreState) (waiting : List (List ℕ)) (tick session : ℕ) (options : List ℕ) (end : Told) (before p q : List ℕ) (h k : Option (List ℕ)) → is_reading state.acquisitions session ≡ false → p ≡ before →
     PlaysOn (written (at state tick) (events.OpenData session options)) end p h q k → PlaysOn (sections state (events_of state waiting (Timed tick (OpenData session options)))) end before h q k
 new_plays state waiting tick session options end before p q h k there same plays =
     opened_new (λ happened. PlaysOn (sections state happened) end before h q k) state waiting tick session options there

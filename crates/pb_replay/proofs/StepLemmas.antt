@@ -15,9 +15,11 @@ use Rattle.pb_core.specs.Sessions.{IsSession}
 use Rattle.pb_replay.specs.Steps.{text_at, act_deed, step_line, session_of, place_of_text, IsSpan, IsStep}
 use Rattle.pb_replay.specs.Events.{events_of, waits_after}
 use Rattle.pb_replay.specs.Output.{sections}
-use Rattle.pb_replay.specs.Pending.{PlaysOn}
+use Rattle.pb_replay.specs.Pending.{PlaysLine, IsSilent}
+use Rattle.pb_replay.specs.Tallies.{Tally, Went}
 use Rattle.pb_replay.specs.Waiting.{AreFed}
 use Rattle.pb_replay.proofs.PendingLemmas.{plays_on_nothing, front_none}
+use Rattle.pb_replay.proofs.TallyLemmas.{told_silent}
 
 -- The line of a step, by its act.
 
@@ -44,8 +46,8 @@ is_end bytes moment e = ap (λ act. Timed moment.tick (act_deed bytes act)) e
 -- What is said of the line is said of the step.
 
 pub step_plays : (line same : Line) (state : CoreState) (waiting : List (List ℕ)) (end : Played) (before p : List ℕ) (old now : Option (List ℕ)) → line ≡ same →
-    PlaysOn (sections state (events_of state waiting same)) end before old p now → PlaysOn (sections state (events_of state waiting line)) end before old p now
-step_plays line same state waiting end before p old now e h = subst (λ l. PlaysOn (sections state (events_of state waiting l)) end before old p now) (sym e) h
+    PlaysLine (sections state (events_of state waiting same)) end before old p now → PlaysLine (sections state (events_of state waiting line)) end before old p now
+step_plays line same state waiting end before p old now e h = subst (λ l. PlaysLine (sections state (events_of state waiting l)) end before old p now) (sym e) h
 
 pub step_leaves : (line same : Line) (state : CoreState) (kept : KeptCore) (waiting : List (List ℕ)) → line ≡ same →
     Agrees kept (after_all state (events_of state waiting same)) → Agrees kept (after_all state (events_of state waiting line))
@@ -59,11 +61,23 @@ pub step_waits : (line same : Line) (was next : List Kept) (waiting : List (List
 step_waits line same was next waiting e none kept h =
     subst (λ l. AreFed next (waits_after waiting l)) (sym e) (subst (λ w. AreFed next w) (sym none) (subst (λ k. AreFed k waiting) (sym kept) h))
 
--- nothing is written: all is done, or memory was wanting
-pub quiet_plays : (end : Played) (before p : List ℕ) (old : Option (List ℕ)) → end ≢ ends.WriteFault → p ≡ before → PlaysOn [] end before old p old
-quiet_plays ends.Ok before p old other same = subst (λ b. PlaysOn [] ends.Ok b old p old) same (plays_on_nothing p old)
+-- nothing is written: all is done, memory was wanting, or the limit came
+pub quiet_plays : (end : Played) (before p : List ℕ) (old : Option (List ℕ)) → ¬ (end ≡ ends.WriteFault) → p ≡ before → PlaysLine [] end before old p old
+quiet_plays ends.Ok before p old other same = subst (λ b. PlaysLine [] ends.Ok b old p old) same (plays_on_nothing p old)
 quiet_plays ends.WriteFault before p old other same = absurd (other refl)
 quiet_plays ends.OutOfMemory before p old other same = front_none (before ++ []) old
+quiet_plays (ends.EventLimit tick) before p old other same = tt
+
+-- what is counted of the line is of the step
+pub step_went : (line same : Line) (state : CoreState) (waiting : List (List ℕ)) (room : ℕ) (Silent : Type 0) (end : Played) (t0 t1 : Tally) → line ≡ same →
+    Went room Silent end state (events_of state waiting same) t0 t1 → Went room Silent end state (events_of state waiting line) t0 t1
+step_went line same state waiting room Silent end t0 t1 e h = subst (λ l. Went room Silent end state (events_of state waiting l) t0 t1) (sym e) h
+
+-- where nothing is written, it is silent
+pub step_silent : (line same : Line) (state : CoreState) (waiting : List (List ℕ)) (room : ℕ) (before p : List ℕ) (old : Option (List ℕ)) (end : Played) (t0 t1 : Tally) → line ≡ same → p ≡ before →
+    Went room (Unit {0}) end state (events_of state waiting same) t0 t1 → Went room (IsSilent before old p old) end state (events_of state waiting line) t0 t1
+step_silent line same state waiting room before p old end t0 t1 e silent h =
+    step_went line same state waiting room (IsSilent before old p old) end t0 t1 e (told_silent room (IsSilent before old p old) end state (events_of state waiting same) t0 t1 (silent, refl) h)
 
 -- What a step has to keep, by its act.
 

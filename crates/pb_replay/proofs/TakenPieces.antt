@@ -7,8 +7,8 @@ use Rattle.pb_core.specs.declared.Event.{Event}
 use Rattle.pb_core.specs.declared.Event.TheVariants as events
 use Rattle.pb_core.specs.Answer.{CoreState, answer, after, after_all}
 use Rattle.pb_core.specs.Kept.{KeptCore, Agrees}
-use Rattle.pb_replay.specs.declared.played.Played.{Played}
-use Rattle.pb_replay.specs.declared.played.Played.TheVariants as ends
+use Rattle.pb_replay.specs.declared.played.Told.{Told}
+use Rattle.pb_replay.specs.declared.played.Told.TheVariants as ends
 use Rattle.pb_replay.specs.Events.{is_piece, takes_up_to, takes_of, takes_of_all}
 use Rattle.pb_replay.specs.Output.{sections}
 use Rattle.pb_replay.specs.Pending.{PlaysOn}
@@ -44,7 +44,7 @@ comes_more state all core next rest less part p0 p q h0 h k cut c plays leads =
     }
 
 -- it breaks off there
-pub comes_break : (end : Played) (state : CoreState) (all : List Event) (core : KeptCore) (rest less part : CoreState → List Event) (p0 p q : List ℕ) (h0 h k : Option (List ℕ)) → end ≢ ends.Ok →
+pub comes_break : (end : Told) (state : CoreState) (all : List Event) (core : KeptCore) (rest less part : CoreState → List Event) (p0 p q : List ℕ) (h0 h k : Option (List ℕ)) → end ≢ ends.Ok →
     ((s : CoreState) → Agrees core s → rest s ≡ part s ++ less (after_all s (part s))) → Comes state all core rest p0 p h0 h →
     ((s : CoreState) → Agrees core s → PlaysOn (sections s (part s)) end p h q k) → PlaysOn (sections state all) end p0 h0 q k
 comes_break end state all core rest less part p0 p q h0 h k other cut c plays =

@@ -1,23 +1,19 @@
 -- What the core answers to the events of a script, where it says so.
-use Rattle.std.proofs.Common.{◌≡◌, ℕ, ◌-◌, ◌≤◌, List, [], true, Option, Some, Result, Ok, Err, IfOk, OnOk, is_ok, sym, ap, subst, ◌∙◌, arith}
+use Rattle.std.proofs.Common.{◌≡◌, ℕ, ◌-◌, ◌≤◌, ◌^◌, max, List, [], true, Option, Some, Result, Ok, Err, IfOk, OnOk, is_ok, sym, ap, subst, ◌∙◌, arith}
 use Rattle.std.specs.Option.{option_map_or}
 use Rattle.pb_core.specs.declared.Event.{Event}
 use Rattle.pb_core.specs.declared.Event.TheVariants as events
 use Rattle.pb_core.specs.declared.Answer.{Answer}
 use Rattle.pb_core.specs.declared.Answer.TheVariants as answers
-use Rattle.pb_core.specs.declared.Why.TheVariants as whys
+use Rattle.pb_going.specs.declared.Why.TheVariants as whys
 use Rattle.pb_model.specs.Tick.{Standing}
-use Rattle.pb_core.specs.Answer.{CoreState, ticks_of_core, answer, after, IsTold, after_told, bytes_of}
+use Rattle.pb_core.specs.Answer.{CoreState, ticks_of_core, answer, after, advanced, Reaches, IsTold, after_told, bytes_of}
+use Rattle.pb_core.proofs.RunLemmas.{ticks_on}
 use Rattle.pb_core.specs.Kept.{KeptCore, Agrees}
-use Rattle.pb_replay.specs.declared.played.Played.{Played}
+use Rattle.pb_replay.specs.Events.{going_to}
+use Rattle.pb_replay.specs.declared.played.Told.{Told}
 use Rattle.pb_replay.specs.Output.{Receiver, receiver_of, section, written}
-use Rattle.pb_replay.specs.Pending.{IsQuiet, IsAnswered, PlaysOn, is_at_target}
-
--- an advance that came to its target
-pub left_there : (state : CoreState) (kept : KeptCore) (to : ℕ) (told : Answer) → is_at_target told ≡ true →
-    Agrees kept (after_told state (events.Advance to) told) → Agrees kept (after state (events.Advance to))
-left_there state kept to (answers.Reached tick whys.Memory) e h = cc
-left_there state kept to told e h = h
+use Rattle.pb_replay.specs.Pending.{IsQuiet, IsAnswered, PlaysOn}
 
 -- an event of which a session is told has one answer
 told_once : (state : CoreState) (event : Event) (told : Answer) → IsAnswered event → IsTold state event told → told ≡ answer state event
@@ -63,11 +59,6 @@ is_answered (events.OpenData id options) to e = tt
 is_answered (events.Take id) to e = tt
 is_answered event to e = cc
 
-pub left_quietly : {E : Type 0} (state : CoreState) (kept : KeptCore) (event : Event) (r : Result Answer E) → IsQuiet event → is_ok r ≡ true →
-    IfOk r (λ told. Agrees kept (after_told state event told)) → Agrees kept (after state event)
-left_quietly state kept event (Ok told) q e h = left_quiet state kept event told q h
-left_quietly state kept event (Err error) q e h = cc
-
 -- What is written for an event of which a session is told.
 
 written_to : (state : CoreState) (event : Event) (to : Option Receiver) (one : Receiver) → to ≡ Some one →
@@ -75,27 +66,20 @@ written_to : (state : CoreState) (event : Event) (to : Option Receiver) (one : R
 written_to state event to one e = ap (λ r. option_map_or (λ r. section state.box.stands.tick r.port r.session (bytes_of (answer state event))) r []) e
 
 pub written_is : (state : CoreState) (kept : KeptCore) (event : Event) (to : Receiver) (tick : ℕ) (told : Answer) (bytes : List ℕ) →
-    Agrees kept state → tick ≡ kept.box.tick → receiver_of event ≡ Some to → told ≡ answer state event → bytes ≡ bytes_of told → section tick to.port to.session bytes ≡ written state event
+    Agrees kept state → tick ≡ kept.sim.tick → receiver_of event ≡ Some to → told ≡ answer state event → bytes ≡ bytes_of told → section tick to.port to.session bytes ≡ written state event
 written_is state kept event to tick told bytes agrees now e one same =
-    ap (λ t. section t to.port to.session bytes) (now ∙ ap (λ s. s.tick) agrees.box.stands)
+    ap (λ t. section t to.port to.session bytes) (now ∙ ap (λ s. s.tick) agrees.run.box.stands)
     ∙ (ap (λ b. section state.box.stands.tick to.port to.session b) (same ∙ ap bytes_of one)
     ∙ sym (written_to state event (receiver_of event) to e))
 
-pub told_plays : (bytes same : List ℕ) (end : Played) (before p q : List ℕ) (old now : Option (List ℕ)) → bytes ≡ same → p ≡ before → PlaysOn bytes end p old q now → PlaysOn same end before old q now
+pub told_plays : (bytes same : List ℕ) (end : Told) (before p q : List ℕ) (old now : Option (List ℕ)) → bytes ≡ same → p ≡ before → PlaysOn bytes end p old q now → PlaysOn same end before old q now
 told_plays bytes same end before p q old now e k h = subst (λ b. PlaysOn b end before old q now) e (subst (λ b. PlaysOn bytes end b old q now) k h)
 
 -- So of an event that is another one.
 
-pub same_plays : (state : CoreState) (event other : Event) (end : Played) (before p : List ℕ) (old now : Option (List ℕ)) → event ≡ other →
+pub same_plays : (state : CoreState) (event other : Event) (end : Told) (before p : List ℕ) (old now : Option (List ℕ)) → event ≡ other →
     PlaysOn (written state event) end before old p now → PlaysOn (written state other) end before old p now
 same_plays state event other end before p old now e h = subst (λ x. PlaysOn (written state x) end before old p now) e h
 
 pub same_leaves : (state : CoreState) (event other : Event) (kept : KeptCore) → event ≡ other → Agrees kept (after state event) → Agrees kept (after state other)
 same_leaves state event other kept e h = subst (λ x. Agrees kept (after state x)) e h
-
--- a box that has been there already doesn't go
-pub there_already : (state : CoreState) (kept : KeptCore) (to : ℕ) → to ≤ kept.box.tick → Agrees kept state → Agrees kept (after state (events.Advance to))
-there_already state kept to there h =
-    let at : kept.box.tick ≡ state.box.stands.tick = ap (λ (s : Standing). s.tick) h.box.stands in
-    let none : to - state.box.stands.tick ≡ 0 = omega (arith, there, at) in
-    subst (λ n. Agrees kept (ticks_of_core n state)) (sym none) h

@@ -11,7 +11,7 @@ use Rattle.pb_core.specs.declared.Event.{Event}
 use Rattle.pb_core.specs.declared.Event.TheVariants as events
 use Rattle.pb_core.specs.Answer.{CoreState, opening, answer, after, after_all}
 use Rattle.pb_core.specs.Sessions.{is_open, is_reading, session_ids}
-use Rattle.pb_replay.specs.Script.{Line, Skipped, Timed, Level, Command, CloseControl, OpenData, Take, CloseData, End}
+use Rattle.pb_replay.specs.Script.{Line, Skipped, Timed, Level, Command, CloseControl, OpenData, Take, CloseData, End, is_end}
 use Rattle.pb_replay.specs.Kept.{rows_of}
 
 -- What waits. Most commands are one line of their session. A table write is several: the line that opens it, those of its body and an
@@ -54,10 +54,14 @@ abbrev pub sent_with : ℕ → List ℕ → List ℕ → List Event
 sent_with session waiting text =
     if is_whole (with_line waiting text) then sent session (with_line waiting text) ∷ [] else []
 
--- The box goes to a tick before what happens there. Where nothing does it doesn't go.
+-- The box goes to a tick, over whatever happens on the way: there are fewer ticks than so many.
+abbrev pub going_to : ℕ → Event
+going_to tick = events.Advance tick (2 ^ 62)
+
+-- It does so before what happens there. Where nothing does it doesn't go.
 abbrev pub at_tick : ℕ → List Event → List Event
 at_tick tick [] = []
-at_tick tick (event ∷ more) = events.Advance tick ∷ event ∷ more
+at_tick tick (event ∷ more) = going_to tick ∷ event ∷ more
 
 -- Data sessions.
 
@@ -102,20 +106,27 @@ events_of core waiting Skipped = []
 events_of core waiting (Timed tick (Level target value)) = []
 events_of core waiting (Timed tick (Command session text)) =
     at_tick tick (opened_for (is_open core.sessions session) session ++ sent_with session (waits_of waiting session) text)
-events_of core waiting (Timed tick (CloseControl session)) = events.Advance tick ∷ events.CloseControl session ∷ []
+events_of core waiting (Timed tick (CloseControl session)) = going_to tick ∷ events.CloseControl session ∷ []
 events_of core waiting (Timed tick (OpenData session options)) =
-    events.Advance tick ∷ (closed_for (is_reading core.acquisitions session) session ++ events.OpenData session options ∷ [])
-events_of core waiting (Timed tick (Take session)) = events.Advance tick ∷ events.Take session ∷ []
-events_of core waiting (Timed tick (CloseData session)) = events.Advance tick ∷ events.CloseData session ∷ []
+    going_to tick ∷ (closed_for (is_reading core.acquisitions session) session ++ events.OpenData session options ∷ [])
+events_of core waiting (Timed tick (Take session)) = going_to tick ∷ events.Take session ∷ []
+events_of core waiting (Timed tick (CloseData session)) = going_to tick ∷ events.CloseData session ∷ []
 events_of core waiting (Timed tick End) =
-    events.Advance tick ∷ takes_of_all (after core (events.Advance tick)) session_ids
+    going_to tick ∷ takes_of_all (after core (going_to tick)) session_ids
 
--- the events of these lines, one after the other: what still waits at the end is no event
+-- the line is the end of the script
+abbrev pub is_last : Line → Bool
+is_last Skipped = false
+is_last (Timed tick deed) = is_end deed
+
+-- The events of these lines, one after the other, up to the end of the script: what still waits there is no event.
 abbrev pub events_from : CoreState → List (List ℕ) → List Line → List Event
 events_from core waiting [] = []
 events_from core waiting (line ∷ lines) =
     events_of core waiting line
-    ++ events_from (after_all core (events_of core waiting line)) (waits_after waiting line) lines
+    ++ (if is_last line
+    then []
+    else events_from (after_all core (events_of core waiting line)) (waits_after waiting line) lines)
 
 -- the core in which a script begins: the rows of its stimulus are there from the first line on
 abbrev pub first_core : List Line → CoreState

@@ -1,4 +1,5 @@
 pub mod Adding
+pub mod Counting
 pub mod Events
 pub mod Faults
 pub mod Forms
@@ -12,5 +13,6 @@ pub mod Reading
 pub mod Refused
 pub mod Script
 pub mod Steps
+pub mod Tallies
 pub mod Waiting
 pub mod Newlines

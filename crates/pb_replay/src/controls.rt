@@ -9,11 +9,12 @@ ghost use Rattle.pb_replay.specs.Script.{Timed, Command, CloseControl};
 ghost use Rattle.pb_replay.specs.Events.{waits_after, sent, events_of};
 ghost use Rattle.pb_replay.specs.Output.{written, sections};
 ghost use Rattle.pb_replay.specs.Plays.{Plays};
-ghost use Rattle.pb_replay.specs.Pending.{PlaysOn};
+ghost use Rattle.pb_replay.specs.Pending.{PlaysOn, PlaysLine, IsSilent};
+ghost use Rattle.pb_replay.specs.Tallies.{tally, AddsCalls, IsReady, Went};
 ghost use Rattle.pb_replay.specs.Waiting.{AreFed, kept_of};
 
 use crate::feeding::put_command;
-use crate::played::Played;
+use crate::played::{Played, Told};
 use crate::players::Player;
 use crate::sections::Port;
 use pb_core::Event;
@@ -35,10 +36,12 @@ impl Player {
         requires session { IsSession session }
         requires text { IsText text.now }
         ensures plays { (state : CoreState) → Agrees self.old.core state → (waiting : List (List ℕ)) → AreFed self.old.assemblers waiting →
-            PlaysOn (sections state (events_of state waiting (Timed tick (Command session text.now)))) result self.old.pending (K.held output.old) self.new.pending (K.held output.new) }
+            PlaysLine (sections state (events_of state waiting (Timed tick (Command session text.now)))) result self.old.pending (K.held output.old) self.new.pending (K.held output.new) }
         ensures core { result ≡ Played.Ok → (state : CoreState) → Agrees self.old.core state → (waiting : List (List ℕ)) → AreFed self.old.assemblers waiting →
             Agrees self.new.core (after_all state (events_of state waiting (Timed tick (Command session text.now)))) }
         ensures fed { result ≡ Played.Ok → (waiting : List (List ℕ)) → AreFed self.old.assemblers waiting → AreFed self.new.assemblers (waits_after waiting (Timed tick (Command session text.now))) }
+        ensures went { (state : CoreState) → Agrees self.old.core state → IsReady state self.old.eventful → (waiting : List (List ℕ)) → AreFed self.old.assemblers waiting →
+            Went 21 (IsSilent self.old.pending (K.held output.old) self.new.pending (K.held output.new)) result state (events_of state waiting (Timed tick (Command session text.now))) (tally self.old.core self.old.eventful steps.old) (tally self.new.core self.new.eventful steps.new) }
         ensures cause { result ≡ Played.WriteFault → Rose (K.faults output.old) (K.faults output.new) }
         ensures count { K.faults output.old ≤ K.faults output.new }
     {
@@ -63,20 +66,22 @@ impl Player {
         requires text { IsText text.now }
         requires open { is_open self.old.core.sessions session ≡ true }
         ensures plays { (state : CoreState) → Agrees self.old.core state → (waiting : List (List ℕ)) → AreFed self.old.assemblers waiting →
-            PlaysOn (sections state (events_of state waiting (Timed tick (Command session text.now)))) result self.old.pending (K.held output.old) self.new.pending (K.held output.new) }
+            PlaysLine (sections state (events_of state waiting (Timed tick (Command session text.now)))) result self.old.pending (K.held output.old) self.new.pending (K.held output.new) }
         ensures core { result ≡ Played.Ok → (state : CoreState) → Agrees self.old.core state → (waiting : List (List ℕ)) → AreFed self.old.assemblers waiting →
             Agrees self.new.core (after_all state (events_of state waiting (Timed tick (Command session text.now)))) }
         ensures fed { result ≡ Played.Ok → (waiting : List (List ℕ)) → AreFed self.old.assemblers waiting → AreFed self.new.assemblers (waits_after waiting (Timed tick (Command session text.now))) }
+        ensures went { (state : CoreState) → Agrees self.old.core state → IsReady state self.old.eventful → (waiting : List (List ℕ)) → AreFed self.old.assemblers waiting →
+            Went 21 (IsSilent self.old.pending (K.held output.old) self.new.pending (K.held output.new)) result state (events_of state waiting (Timed tick (Command session text.now))) (tally self.old.core self.old.eventful steps.old) (tally self.new.core self.new.eventful steps.new) }
         ensures cause { result ≡ Played.WriteFault → Rose (K.faults output.old) (K.faults output.new) }
         ensures count { K.faults output.old ≤ K.faults output.new }
     {
         if !self.assemblers.feed(session, text) {
             return Played::Ok;
         }
-        if !self.advance(tick, steps) {
-            return Played::OutOfMemory;
+        match self.advance(tick, steps) {
+            Played::Ok => self.send_command(session, output, steps).played(),
+            end => end,
         }
-        self.send_command(session, output, steps)
     }
 
     /// Plays the first line of a control session: it opens at this tick.
@@ -93,20 +98,23 @@ impl Player {
         requires text { IsText text.now }
         requires open { is_open self.old.core.sessions session ≡ false }
         ensures plays { (state : CoreState) → Agrees self.old.core state → (waiting : List (List ℕ)) → AreFed self.old.assemblers waiting →
-            PlaysOn (sections state (events_of state waiting (Timed tick (Command session text.now)))) result self.old.pending (K.held output.old) self.new.pending (K.held output.new) }
+            PlaysLine (sections state (events_of state waiting (Timed tick (Command session text.now)))) result self.old.pending (K.held output.old) self.new.pending (K.held output.new) }
         ensures core { result ≡ Played.Ok → (state : CoreState) → Agrees self.old.core state → (waiting : List (List ℕ)) → AreFed self.old.assemblers waiting →
             Agrees self.new.core (after_all state (events_of state waiting (Timed tick (Command session text.now)))) }
         ensures fed { result ≡ Played.Ok → (waiting : List (List ℕ)) → AreFed self.old.assemblers waiting → AreFed self.new.assemblers (waits_after waiting (Timed tick (Command session text.now))) }
+        ensures went { (state : CoreState) → Agrees self.old.core state → IsReady state self.old.eventful → (waiting : List (List ℕ)) → AreFed self.old.assemblers waiting →
+            Went 21 (IsSilent self.old.pending (K.held output.old) self.new.pending (K.held output.new)) result state (events_of state waiting (Timed tick (Command session text.now))) (tally self.old.core self.old.eventful steps.old) (tally self.new.core self.new.eventful steps.new) }
         ensures cause { result ≡ Played.WriteFault → Rose (K.faults output.old) (K.faults output.new) }
         ensures count { K.faults output.old ≤ K.faults output.new }
     {
-        if !self.happens_at(tick, &Event::OpenControl { id: session }, steps) {
-            return Played::OutOfMemory;
+        match self.happens_at(tick, &Event::OpenControl { id: session }, steps) {
+            Played::Ok => {}
+            end => return end,
         }
         if !self.assemblers.feed(session, text) {
             return Played::Ok;
         }
-        self.send_command(session, output, steps)
+        self.send_command(session, output, steps).played()
     }
 
     /// The session sends the command that is whole.
@@ -115,20 +123,22 @@ impl Player {
         session: u32,
         output: &mut K,
         steps: &mut Steps<L>,
-    ) -> Played
+    ) -> Told
         requires session { IsSession session }
         requires whole { HasWhole (kept_of self.old.assemblers session) }
         ensures plays { (state : CoreState) → Agrees self.old.core state → (bytes : List ℕ) → Completed (kept_of self.old.assemblers session) bytes →
             PlaysOn (written state (sent session bytes)) result self.old.pending (K.held output.old) self.new.pending (K.held output.new) }
-        ensures core { result ≡ Played.Ok → (state : CoreState) → Agrees self.old.core state → (bytes : List ℕ) → Completed (kept_of self.old.assemblers session) bytes →
+        ensures core { result ≡ Told.Ok → (state : CoreState) → Agrees self.old.core state → (bytes : List ℕ) → Completed (kept_of self.old.assemblers session) bytes →
             Agrees self.new.core (after state (sent session bytes)) }
+        ensures calls { (state : CoreState) → Agrees self.old.core state →
+            AddsCalls 21 (tally self.old.core self.old.eventful steps.old) (tally self.new.core self.new.eventful steps.new) }
         ensures assemblers { self.new.assemblers ≡ self.old.assemblers }
-        ensures cause { result ≡ Played.WriteFault → Rose (K.faults output.old) (K.faults output.new) }
+        ensures cause { result ≡ Told.WriteFault → Rose (K.faults output.old) (K.faults output.new) }
         ensures count { K.faults output.old ≤ K.faults output.new }
     {
         match put_command(&self.assemblers, session, &mut self.event, self.alloc) {
             Ok(()) => self.tell(Port::Control, session, output, steps),
-            Err(_) => Played::OutOfMemory,
+            Err(_) => Told::OutOfMemory,
         }
     }
 
@@ -143,15 +153,13 @@ impl Player {
         requires session { IsSession session }
         ensures core { result ≡ Played.Ok → (state : CoreState) → Agrees self.old.core state → (waiting : List (List ℕ)) →
             Agrees self.new.core (after_all state (events_of state waiting (Timed tick (CloseControl session)))) }
+        ensures went { (state : CoreState) → Agrees self.old.core state → IsReady state self.old.eventful → (waiting : List (List ℕ)) →
+            Went 21 (Unit {0}) result state (events_of state waiting (Timed tick (CloseControl session))) (tally self.old.core self.old.eventful steps.old) (tally self.new.core self.new.eventful steps.new) }
         ensures known { ¬ (result ≡ Played.WriteFault) }
         ensures pending { self.new.pending ≡ self.old.pending }
         ensures fed { result ≡ Played.Ok → (waiting : List (List ℕ)) → AreFed self.old.assemblers waiting → AreFed self.new.assemblers (waits_after waiting (Timed tick (CloseControl session))) }
     {
         self.assemblers.clear(session);
-        if self.happens_at(tick, &Event::CloseControl { id: session }, steps) {
-            Played::Ok
-        } else {
-            Played::OutOfMemory
-        }
+        self.happens_at(tick, &Event::CloseControl { id: session }, steps)
     }
 }

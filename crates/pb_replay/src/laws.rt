@@ -4,8 +4,8 @@ ghost use Rattle.pb_replay.specs.Script.{Line, IsLine, IsScript};
 ghost use Rattle.pb_replay.specs.Reading.{line_in};
 ghost use Rattle.pb_replay.specs.Faults.{first_fault};
 ghost use Rattle.pb_replay.specs.Kept.{kept};
-ghost use Rattle.pb_replay.specs.Output.{output};
-ghost use Rattle.pb_replay.specs.Plays.{kept_output};
+ghost use Rattle.pb_replay.specs.Events.{events_of_script};
+ghost use Rattle.pb_replay.specs.Plays.{kept_events};
 
 /// A text is a line exactly where that line is computed of it.
 pub fn lines_are_computed()
@@ -19,7 +19,7 @@ pub fn scripts_are_read_or_refused()
     ensures one_way { (bytes : List ℕ) (lines others : List Line) → IsScript bytes lines → IsScript bytes others → lines ≡ others }
 {}
 
-/// What is kept of a script has the output of all its lines.
-pub fn kept_scripts_have_their_output()
-    ensures { (lines : List Line) → kept_output (kept lines) ≡ output lines }
+/// What is kept of a script has the events of all its lines.
+pub fn kept_scripts_have_their_events()
+    ensures { (lines : List Line) → kept_events (kept lines) ≡ events_of_script lines }
 {}

@@ -28,7 +28,7 @@ mod worked;
 
 pub use examples::{faults_by_example, lines_by_example};
 pub use faults::ScriptFault;
-pub use laws::{kept_scripts_have_their_output, lines_are_computed, scripts_are_read_or_refused};
+pub use laws::{kept_scripts_have_their_events, lines_are_computed, scripts_are_read_or_refused};
 pub use parsing::parse;
 pub use played::Played;
 pub use playing::play;

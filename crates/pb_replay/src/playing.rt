@@ -1,6 +1,6 @@
 ghost use Rattle.std.specs.Prelude.{◌≡◌, ◌≤◌, IfOk};
 ghost use Rattle.pb_ports.specs.Ports.{Rose};
-ghost use Rattle.pb_replay.specs.Plays.{Plays, kept_output};
+ghost use Rattle.pb_replay.specs.Plays.{PlaysKept, CallsKept};
 
 use crate::played::Played;
 use crate::players::Player;
@@ -12,14 +12,16 @@ use std::alloc::Global;
 use std::sync::ledger::Ledger;
 
 /// Plays a script from its beginning to its end, and writes its output. Where the output fails or memory is wanting, a front of it was
-/// written.
+/// written. At its 10,000,000th eventful tick it ends: what the lines before give was written. The counter goes up by one for each
+/// block call.
 pub fn play<K: Sink, L: Ledger>(
     alloc: Global,
     script: &Script,
     output: &mut K,
     steps: &mut Steps<L>,
 ) -> Played
-    ensures plays { Plays (kept_output script.now) result (K.held output.old) (K.held output.new) }
+    ensures plays { PlaysKept script.now result (K.held output.old) (K.held output.new) }
+    ensures calls { CallsKept script.now steps.old steps.new }
     ensures cause { result ≡ Played.WriteFault → Rose (K.faults output.old) (K.faults output.new) }
     ensures count { K.faults output.old ≤ K.faults output.new }
 {

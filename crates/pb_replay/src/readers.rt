@@ -7,10 +7,11 @@ ghost use Rattle.pb_core.specs.declared.Event.TheVariants as events;
 ghost use Rattle.pb_replay.specs.Script.{Timed, OpenData, Take, CloseData, End};
 ghost use Rattle.pb_replay.specs.Events.{events_of, is_piece, takes_of, takes_of_all, takes_up_to, most_takes};
 ghost use Rattle.pb_replay.specs.Output.{written, sections};
-ghost use Rattle.pb_replay.specs.Pending.{PlaysOn};
+ghost use Rattle.pb_replay.specs.Pending.{PlaysOn, PlaysLine, IsSilent};
+ghost use Rattle.pb_replay.specs.Tallies.{tally, AddsCalls, IsReady, Went};
 
 use crate::happening::answer;
-use crate::played::Played;
+use crate::played::{Played, Told};
 use crate::players::Player;
 use crate::sections::{Port, write_section};
 use pb_core::{Answer, Event};
@@ -32,24 +33,49 @@ impl Player {
         requires small { tick < 2 ^ 62 }
         requires session { IsSession session }
         ensures plays { (state : CoreState) → Agrees self.old.core state → (waiting : List (List ℕ)) →
-            PlaysOn (sections state (events_of state waiting (Timed tick (OpenData session options.now)))) result self.old.pending (K.held output.old) self.new.pending (K.held output.new) }
+            PlaysLine (sections state (events_of state waiting (Timed tick (OpenData session options.now)))) result self.old.pending (K.held output.old) self.new.pending (K.held output.new) }
         ensures core { result ≡ Played.Ok → (state : CoreState) → Agrees self.old.core state → (waiting : List (List ℕ)) →
             Agrees self.new.core (after_all state (events_of state waiting (Timed tick (OpenData session options.now)))) }
+        ensures went { (state : CoreState) → Agrees self.old.core state → IsReady state self.old.eventful → (waiting : List (List ℕ)) →
+            Went 21 (IsSilent self.old.pending (K.held output.old) self.new.pending (K.held output.new)) result state (events_of state waiting (Timed tick (OpenData session options.now))) (tally self.old.core self.old.eventful steps.old) (tally self.new.core self.new.eventful steps.new) }
         ensures assemblers { self.new.assemblers ≡ self.old.assemblers }
         ensures cause { result ≡ Played.WriteFault → Rose (K.faults output.old) (K.faults output.new) }
         ensures count { K.faults output.old ≤ K.faults output.new }
     {
         let was_open = self.core.is_reading(session);
-        if !self.advance(tick, steps) {
-            return Played::OutOfMemory;
+        match self.advance(tick, steps) {
+            Played::Ok => {}
+            end => return end,
         }
-        if !was_open {
-            return self.open_reader(session, options, output, steps);
+        if was_open {
+            self.open_again(session, options, output, steps).played()
+        } else {
+            self.open_reader(session, options, output, steps).played()
         }
-        if !self.happens(&Event::CloseData { id: session }, steps) {
-            return Played::OutOfMemory;
+    }
+
+    /// A data session that is open closes, and opens again with this options line.
+    fn open_again<K: Sink, L: Ledger>(
+        &mut self,
+        session: u32,
+        options: &[u8],
+        output: &mut K,
+        steps: &mut Steps<L>,
+    ) -> Told
+        requires session { IsSession session }
+        ensures plays { (state : CoreState) → Agrees self.old.core state →
+            PlaysOn (written (after state (events.CloseData session)) (events.OpenData session options.now)) result self.old.pending (K.held output.old) self.new.pending (K.held output.new) }
+        ensures core { result ≡ Told.Ok → (state : CoreState) → Agrees self.old.core state → Agrees self.new.core (after (after state (events.CloseData session)) (events.OpenData session options.now)) }
+        ensures calls { (state : CoreState) → Agrees self.old.core state →
+            AddsCalls 21 (tally self.old.core self.old.eventful steps.old) (tally self.new.core self.new.eventful steps.new) }
+        ensures assemblers { self.new.assemblers ≡ self.old.assemblers }
+        ensures cause { result ≡ Told.WriteFault → Rose (K.faults output.old) (K.faults output.new) }
+        ensures count { K.faults output.old ≤ K.faults output.new }
+    {
+        match self.happens(&Event::CloseData { id: session }, steps) {
+            Told::Ok => self.open_reader(session, options, output, steps),
+            end => end,
         }
-        self.open_reader(session, options, output, steps)
     }
 
     /// A data session opens with this options line.
@@ -59,18 +85,20 @@ impl Player {
         options: &[u8],
         output: &mut K,
         steps: &mut Steps<L>,
-    ) -> Played
+    ) -> Told
         requires session { IsSession session }
         ensures plays { (state : CoreState) → Agrees self.old.core state →
             PlaysOn (written state (events.OpenData session options.now)) result self.old.pending (K.held output.old) self.new.pending (K.held output.new) }
-        ensures core { result ≡ Played.Ok → (state : CoreState) → Agrees self.old.core state → Agrees self.new.core (after state (events.OpenData session options.now)) }
+        ensures core { result ≡ Told.Ok → (state : CoreState) → Agrees self.old.core state → Agrees self.new.core (after state (events.OpenData session options.now)) }
+        ensures calls { (state : CoreState) → Agrees self.old.core state →
+            AddsCalls 21 (tally self.old.core self.old.eventful steps.old) (tally self.new.core self.new.eventful steps.new) }
         ensures assemblers { self.new.assemblers ≡ self.old.assemblers }
-        ensures cause { result ≡ Played.WriteFault → Rose (K.faults output.old) (K.faults output.new) }
+        ensures cause { result ≡ Told.WriteFault → Rose (K.faults output.old) (K.faults output.new) }
         ensures count { K.faults output.old ≤ K.faults output.new }
     {
         let mut text = Text::new(self.alloc);
         if text.append(options).is_err() {
-            return Played::OutOfMemory;
+            return Told::OutOfMemory;
         }
         self.event = Event::OpenData {
             id: session,
@@ -90,20 +118,23 @@ impl Player {
         requires small { tick < 2 ^ 62 }
         requires session { IsSession session }
         ensures plays { (state : CoreState) → Agrees self.old.core state → (waiting : List (List ℕ)) →
-            PlaysOn (sections state (events_of state waiting (Timed tick (Take session)))) result self.old.pending (K.held output.old) self.new.pending (K.held output.new) }
+            PlaysLine (sections state (events_of state waiting (Timed tick (Take session)))) result self.old.pending (K.held output.old) self.new.pending (K.held output.new) }
         ensures core { result ≡ Played.Ok → (state : CoreState) → Agrees self.old.core state → (waiting : List (List ℕ)) →
             Agrees self.new.core (after_all state (events_of state waiting (Timed tick (Take session)))) }
+        ensures went { (state : CoreState) → Agrees self.old.core state → IsReady state self.old.eventful → (waiting : List (List ℕ)) →
+            Went 21 (IsSilent self.old.pending (K.held output.old) self.new.pending (K.held output.new)) result state (events_of state waiting (Timed tick (Take session))) (tally self.old.core self.old.eventful steps.old) (tally self.new.core self.new.eventful steps.new) }
         ensures assemblers { self.new.assemblers ≡ self.old.assemblers }
         ensures cause { result ≡ Played.WriteFault → Rose (K.faults output.old) (K.faults output.new) }
         ensures count { K.faults output.old ≤ K.faults output.new }
     {
-        if !self.advance(tick, steps) {
-            return Played::OutOfMemory;
+        match self.advance(tick, steps) {
+            Played::Ok => {}
+            end => return end,
         }
         let kept = mem::replace(&mut self.event, Event::Take { id: session });
-        let played = self.tell(Port::Data, session, output, steps);
+        let told = self.tell(Port::Data, session, output, steps);
         self.event = kept;
-        played
+        told.played()
     }
 
     /// A data session closes.
@@ -117,15 +148,13 @@ impl Player {
         requires session { IsSession session }
         ensures core { result ≡ Played.Ok → (state : CoreState) → Agrees self.old.core state → (waiting : List (List ℕ)) →
             Agrees self.new.core (after_all state (events_of state waiting (Timed tick (CloseData session)))) }
+        ensures went { (state : CoreState) → Agrees self.old.core state → IsReady state self.old.eventful → (waiting : List (List ℕ)) →
+            Went 21 (Unit {0}) result state (events_of state waiting (Timed tick (CloseData session))) (tally self.old.core self.old.eventful steps.old) (tally self.new.core self.new.eventful steps.new) }
         ensures known { ¬ (result ≡ Played.WriteFault) }
         ensures assemblers { self.new.assemblers ≡ self.old.assemblers }
         ensures pending { self.new.pending ≡ self.old.pending }
     {
-        if self.happens_at(tick, &Event::CloseData { id: session }, steps) {
-            Played::Ok
-        } else {
-            Played::OutOfMemory
-        }
+        self.happens_at(tick, &Event::CloseData { id: session }, steps)
     }
 
     /// The end: each data session that is open takes until there is no piece.
@@ -137,17 +166,19 @@ impl Player {
     ) -> Played
         requires small { tick < 2 ^ 62 }
         ensures plays { (state : CoreState) → Agrees self.old.core state → (waiting : List (List ℕ)) →
-            PlaysOn (sections state (events_of state waiting (Timed tick End))) result self.old.pending (K.held output.old) self.new.pending (K.held output.new) }
+            PlaysLine (sections state (events_of state waiting (Timed tick End))) result self.old.pending (K.held output.old) self.new.pending (K.held output.new) }
         ensures core { result ≡ Played.Ok → (state : CoreState) → Agrees self.old.core state → (waiting : List (List ℕ)) →
             Agrees self.new.core (after_all state (events_of state waiting (Timed tick End))) }
+        ensures went { (state : CoreState) → Agrees self.old.core state → IsReady state self.old.eventful → (waiting : List (List ℕ)) →
+            Went 21 (IsSilent self.old.pending (K.held output.old) self.new.pending (K.held output.new)) result state (events_of state waiting (Timed tick End)) (tally self.old.core self.old.eventful steps.old) (tally self.new.core self.new.eventful steps.new) }
         ensures assemblers { self.new.assemblers ≡ self.old.assemblers }
         ensures cause { result ≡ Played.WriteFault → Rose (K.faults output.old) (K.faults output.new) }
         ensures count { K.faults output.old ≤ K.faults output.new }
     {
-        if !self.advance(tick, steps) {
-            return Played::OutOfMemory;
+        match self.advance(tick, steps) {
+            Played::Ok => self.take_rest(output, steps).played(),
+            end => end,
         }
-        self.take_rest(output, steps)
     }
 
     /// Each data session that is open takes until there is no piece.
@@ -155,21 +186,23 @@ impl Player {
         &mut self,
         output: &mut K,
         steps: &mut Steps<L>,
-    ) -> Played
+    ) -> Told
         ensures plays { (state : CoreState) → Agrees self.old.core state →
             PlaysOn (sections state (takes_of_all state session_ids)) result self.old.pending (K.held output.old) self.new.pending (K.held output.new) }
-        ensures core { result ≡ Played.Ok → (state : CoreState) → Agrees self.old.core state → Agrees self.new.core (after_all state (takes_of_all state session_ids)) }
+        ensures core { result ≡ Told.Ok → (state : CoreState) → Agrees self.old.core state → Agrees self.new.core (after_all state (takes_of_all state session_ids)) }
+        ensures calls { (state : CoreState) → Agrees self.old.core state →
+            AddsCalls 0 (tally self.old.core self.old.eventful steps.old) (tally self.new.core self.new.eventful steps.new) }
         ensures assemblers { self.new.assemblers ≡ self.old.assemblers }
-        ensures cause { result ≡ Played.WriteFault → Rose (K.faults output.old) (K.faults output.new) }
+        ensures cause { result ≡ Told.WriteFault → Rose (K.faults output.old) (K.faults output.new) }
         ensures count { K.faults output.old ≤ K.faults output.new }
     {
         for session in 1..9u32 {
             match self.take_all(session, output, steps) {
-                Played::Ok => {}
+                Told::Ok => {}
                 end => return end,
             }
         }
-        Played::Ok
+        Told::Ok
     }
 
     /// A data session takes until there is no piece, if it is open.
@@ -178,19 +211,21 @@ impl Player {
         session: u32,
         output: &mut K,
         steps: &mut Steps<L>,
-    ) -> Played
+    ) -> Told
         requires { IsSession session }
         ensures plays { (state : CoreState) → Agrees self.old.core state →
             PlaysOn (sections state (takes_of state session)) result self.old.pending (K.held output.old) self.new.pending (K.held output.new) }
-        ensures core { result ≡ Played.Ok → (state : CoreState) → Agrees self.old.core state → Agrees self.new.core (after_all state (takes_of state session)) }
+        ensures core { result ≡ Told.Ok → (state : CoreState) → Agrees self.old.core state → Agrees self.new.core (after_all state (takes_of state session)) }
+        ensures calls { (state : CoreState) → Agrees self.old.core state →
+            AddsCalls 0 (tally self.old.core self.old.eventful steps.old) (tally self.new.core self.new.eventful steps.new) }
         ensures assemblers { self.new.assemblers ≡ self.old.assemblers }
-        ensures cause { result ≡ Played.WriteFault → Rose (K.faults output.old) (K.faults output.new) }
+        ensures cause { result ≡ Told.WriteFault → Rose (K.faults output.old) (K.faults output.new) }
         ensures count { K.faults output.old ≤ K.faults output.new }
     {
         if self.core.is_reading(session) {
             self.take_pieces(session, output, steps)
         } else {
-            Played::Ok
+            Told::Ok
         }
     }
 
@@ -200,26 +235,28 @@ impl Player {
         session: u32,
         output: &mut K,
         steps: &mut Steps<L>,
-    ) -> Played
+    ) -> Told
         requires { IsSession session }
         ensures plays { (state : CoreState) → Agrees self.old.core state →
             PlaysOn (sections state (takes_up_to most_takes state session)) result self.old.pending (K.held output.old) self.new.pending (K.held output.new) }
-        ensures core { result ≡ Played.Ok → (state : CoreState) → Agrees self.old.core state → Agrees self.new.core (after_all state (takes_up_to most_takes state session)) }
+        ensures core { result ≡ Told.Ok → (state : CoreState) → Agrees self.old.core state → Agrees self.new.core (after_all state (takes_up_to most_takes state session)) }
+        ensures calls { (state : CoreState) → Agrees self.old.core state →
+            AddsCalls 0 (tally self.old.core self.old.eventful steps.old) (tally self.new.core self.new.eventful steps.new) }
         ensures assemblers { self.new.assemblers ≡ self.old.assemblers }
-        ensures cause { result ≡ Played.WriteFault → Rose (K.faults output.old) (K.faults output.new) }
+        ensures cause { result ≡ Told.WriteFault → Rose (K.faults output.old) (K.faults output.new) }
         ensures count { K.faults output.old ≤ K.faults output.new }
     {
         for _turn in 0..u64::MAX {
-            let (played, more) = self.take_piece(session, output, steps);
-            match played {
-                Played::Ok => {}
+            let (told, more) = self.take_piece(session, output, steps);
+            match told {
+                Told::Ok => {}
                 end => return end,
             }
             if !more {
-                return Played::Ok;
+                return Told::Ok;
             }
         }
-        Played::Ok
+        Told::Ok
     }
 
     /// A data session takes. Whether it was handed a piece is answered too.
@@ -228,20 +265,22 @@ impl Player {
         session: u32,
         output: &mut K,
         steps: &mut Steps<L>,
-    ) -> (Played, bool)
+    ) -> (Told, bool)
         requires { IsSession session }
         ensures plays { (state : CoreState) → Agrees self.old.core state →
             PlaysOn (written state (events.Take session)) result.0 self.old.pending (K.held output.old) self.new.pending (K.held output.new) }
-        ensures core { result.0 ≡ Played.Ok → (state : CoreState) → Agrees self.old.core state → Agrees self.new.core (after state (events.Take session)) }
-        ensures piece { result.0 ≡ Played.Ok → (state : CoreState) → Agrees self.old.core state → result.1 ≡ is_piece (answer state (events.Take session)) }
+        ensures core { result.0 ≡ Told.Ok → (state : CoreState) → Agrees self.old.core state → Agrees self.new.core (after state (events.Take session)) }
+        ensures piece { result.0 ≡ Told.Ok → (state : CoreState) → Agrees self.old.core state → result.1 ≡ is_piece (answer state (events.Take session)) }
+        ensures calls { (state : CoreState) → Agrees self.old.core state →
+            AddsCalls 0 (tally self.old.core self.old.eventful steps.old) (tally self.new.core self.new.eventful steps.new) }
         ensures assemblers { self.new.assemblers ≡ self.old.assemblers }
-        ensures cause { result.0 ≡ Played.WriteFault → Rose (K.faults output.old) (K.faults output.new) }
+        ensures cause { result.0 ≡ Told.WriteFault → Rose (K.faults output.old) (K.faults output.new) }
         ensures count { K.faults output.old ≤ K.faults output.new }
     {
         let tick = self.core.now();
         match answer(&mut self.core, &Event::Take { id: session }, steps) {
             Ok(answer) => {
-                let played = write_section(
+                let told = write_section(
                     tick,
                     Port::Data,
                     session,
@@ -249,9 +288,9 @@ impl Player {
                     &mut self.pending,
                     output,
                 );
-                (played, is_piece(&answer))
+                (told, is_piece(&answer))
             }
-            Err(_) => (Played::OutOfMemory, false),
+            Err(_) => (Told::OutOfMemory, false),
         }
     }
 }

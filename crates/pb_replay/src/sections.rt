@@ -1,4 +1,4 @@
-use crate::played::Played;
+use crate::played::Told;
 use pb_ports::Sink;
 use pb_words::{OutOfMemory, Text};
 
@@ -18,8 +18,7 @@ ghost use Rattle.std.specs.Prelude.{◌≡◌, ℕ, ◌<◌, ◌≤◌, [], ◌�
 ghost use Rattle.pb_ports.specs.Ports.{Rose};
 ghost use Rattle.pb_core.specs.Sessions.{IsSession};
 ghost use Rattle.pb_replay.specs.Output.{port_text, section};
-ghost use Rattle.pb_replay.specs.Pending.{PlaysOn};
-ghost use Rattle.pb_replay.specs.Plays.{Plays};
+ghost use Rattle.pb_replay.specs.Pending.{PlaysOn, AreWritten};
 
 /// Adds the answer to a session as a section to those that are still to be written, and writes them where they are many.
 pub(crate) fn write_section<K: Sink>(
@@ -29,37 +28,37 @@ pub(crate) fn write_section<K: Sink>(
     bytes: &[u8],
     pending: &mut Text,
     output: &mut K,
-) -> Played
+) -> Told
     requires { IsSession session }
     ensures plays { PlaysOn (section tick port session bytes.now) result pending.old (K.held output.old) pending.new (K.held output.new) }
-    ensures cause { result ≡ Played.WriteFault → Rose (K.faults output.old) (K.faults output.new) }
+    ensures cause { result ≡ Told.WriteFault → Rose (K.faults output.old) (K.faults output.new) }
     ensures count { K.faults output.old ≤ K.faults output.new }
 {
     if bytes.is_empty() {
-        return Played::Ok;
+        return Told::Ok;
     }
     match add_section(tick, port, session, bytes, pending) {
         Ok(()) => {}
-        Err(_) => return Played::OutOfMemory,
+        Err(_) => return Told::OutOfMemory,
     }
     if pending.bytes().len() < FULL {
-        return Played::Ok;
+        return Told::Ok;
     }
     write_pending(pending, output)
 }
 
 /// Writes the sections that are still to be written.
-pub(crate) fn write_pending<K: Sink>(pending: &mut Text, output: &mut K) -> Played
-    ensures plays { Plays pending.old result (K.held output.old) (K.held output.new) }
+pub(crate) fn write_pending<K: Sink>(pending: &mut Text, output: &mut K) -> Told
+    ensures plays { AreWritten pending.old result (K.held output.old) (K.held output.new) }
     ensures none { pending.new ≡ [] }
-    ensures cause { result ≡ Played.WriteFault → Rose (K.faults output.old) (K.faults output.new) }
+    ensures cause { result ≡ Told.WriteFault → Rose (K.faults output.old) (K.faults output.new) }
     ensures count { K.faults output.old ≤ K.faults output.new }
 {
     let written = output.write_all(pending.bytes());
     pending.clear();
     match written {
-        Ok(()) => Played::Ok,
-        Err(_) => Played::WriteFault,
+        Ok(()) => Told::Ok,
+        Err(_) => Told::WriteFault,
     }
 }
 

@@ -25,7 +25,6 @@ use Rattle.pb_core.specs.declared.Event.{Event}
 use Rattle.pb_core.specs.declared.Event.TheVariants as events
 use Rattle.pb_core.specs.declared.Answer.{Answer}
 use Rattle.pb_core.specs.declared.Answer.TheVariants as answers
-use Rattle.pb_core.specs.declared.Why.TheVariants as whys
 use Rattle.pb_core.specs.declared.Entry.{Entry}
 use Rattle.pb_core.specs.Core.{CoreState, opening, ticked, ticks_of_core}
 use Rattle.pb_core.specs.Tick as ticks
@@ -154,9 +153,9 @@ module _ (id : ℕ) (spares : Type 0) where
   take_bytes all other (Some reader) = taken_bytes other (taken reader (own reader all))
 
   -- box time goes on
-  advanced_moves : (core : CoreState) (to : ℕ) (told : Answer) → Moves id core.acquisitions (after_told core (events.Advance to) told).acquisitions spares []
-  advanced_moves core to (answers.Reached tick whys.Memory) = ticks_move (tick - core.box.stands.tick) core
-  advanced_moves core to told = ticks_move (to - core.box.stands.tick) core
+  advanced_moves : (core : CoreState) (to most : ℕ) (told : Answer) → Moves id core.acquisitions (after_told core (events.Advance to most) told).acquisitions spares []
+  advanced_moves core to most (answers.Reached tick why) = ticks_move (tick - core.box.stands.tick) core
+  advanced_moves core to most told = ticks_move (to - core.box.stands.tick) core
 
   -- one event that was answered
   answered_moves : (core : CoreState) (event : Event) (told : Answer) → CanHappen event → IsResult core event (Ok told) → (spares → SparesReader id event)
@@ -172,7 +171,7 @@ module _ (id : ℕ) (spares : Type 0) where
       (sym (ap (λ (a : Answer). piece_in id (events.Take other) (Ok a)) is ∙ take_bytes all other (reader_of all other)))
       (moves_by id all spares (streams.asks other) (λ _. can.from_one))
   answered_moves core (events.CloseData other) told can is spared = moves_by id core.acquisitions spares (streams.closes other) (λ s. (can.from_one, spared s))
-  answered_moves core (events.Advance to) told can is spared = advanced_moves core to told
+  answered_moves core (events.Advance to most) told can is spared = advanced_moves core to most told
 
   lacking_piece : (event : Event) (lack : OutOfMemory) → piece_in id event (Err lack) ≡ []
   lacking_piece (events.Take other) lack = refl

@@ -11,7 +11,7 @@ use Rattle.pb_session.specs.Workers.{AreAdvances, AddsAny, Advances}
 use Rattle.pb_session.proofs.CallLemmas.{adds_more}
 
 are_more : (moments others rest : Option (List ℕ)) (entries : List Entry) (e : Entry) (moment : ℕ) → AreAdvances moments entries others → IsTick moment → Tells others moment rest
-    → e.event ≡ events.Advance moment → AreAdvances moments (entries ++ e ∷ []) rest
+    → e.event ≡ events.Advance moment 10000 → AreAdvances moments (entries ++ e ∷ []) rest
 are_more moments others rest [] e moment h small tells is = (moment, rest, small, subst (λ (m : Option (List ℕ)). Tells m moment rest) h tells, is, refl)
 are_more moments others rest (d ∷ entries) e moment h small tells is = (h.0, h.1, h.2, h.3, h.4, are_more h.1 others rest entries e moment h.5 small tells is)
 
@@ -24,7 +24,7 @@ module _ {V : Type 0} (opening : V → CoreState) where
   advances_first pass moments = record { entries = []; count = refl; adds = refl; are = refl }
 
   pub advances_more : (start pass new : Known Entry V) (turns moment : ℕ) (moments others rest last : Option (List ℕ)) (e : Entry) → IsTick moment → Tells others moment rest → last ≡ rest
-      → e.event ≡ events.Advance moment → Adds opening pass new (e ∷ []) → Advances opening turns start pass moments others → Advances opening (turns + 1) start new moments last
+      → e.event ≡ events.Advance moment 10000 → Adds opening pass new (e ∷ []) → Advances opening turns start pass moments others → Advances opening (turns + 1) start new moments last
   advances_more start pass new turns moment moments others rest last e small tells same is a h =
       record {
         entries = h.entries ++ e ∷ [];

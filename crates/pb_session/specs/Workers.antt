@@ -29,11 +29,11 @@ pub record ServesData {V : Type 0} (opening : V → CoreState) (id : ℕ) (pass 
   pub nothing : IsSpent sent
   pub session : HasStreamed opening id pass ended new way left sent held
 
--- Each is an advance to the next moment, where moments are told, and to some tick else.
+-- Each is an advance to the next moment, where moments are told, and to some tick else, over at most 10,000 eventful ticks.
 abbrev pub AreAdvances : Option (List ℕ) → List Entry → Option (List ℕ) → Type 0
 AreAdvances moments [] others = others ≡ moments
 AreAdvances moments (done ∷ entries) others =
-    (moment : ℕ) × (rest : Option (List ℕ)) × IsTick moment × Tells moments moment rest × (done.event ≡ events.Advance moment) × AreAdvances rest entries others
+    (moment : ℕ) × (rest : Option (List ℕ)) × IsTick moment × Tells moments moment rest × (done.event ≡ events.Advance moment 10000) × AreAdvances rest entries others
 
 -- These entries were added, if any.
 abbrev pub AddsAny : {V : Type 0} → (V → CoreState) → Known Entry V → Known Entry V → List Entry → Type 0

@@ -87,8 +87,11 @@ pub fn data_worker<V: Server, D: Door, P: Pacer, R: Wait>(
     }
 }
 
-/// Takes box time on, so many times, each time to the tick that the pacer gives, and then pauses. Box time may lag behind
-/// the clock.
+/// The most eventful ticks of one turn of a capture worker, so that others have the turn in between.
+const MOST: u64 = 10_000;
+
+/// Takes box time on, so many times, each time to the tick that the pacer gives but over at most 10,000 eventful ticks, and then
+/// pauses. Box time may lag behind the clock.
 pub fn capture_worker<V: Server, P: Pacer, R: Wait, L: Ledger>(
     rt: &R,
     turn: &Turn<V>,
@@ -104,7 +107,7 @@ pub fn capture_worker<V: Server, P: Pacer, R: Wait, L: Ledger>(
     let mut pass = pass;
     for _round in 0..turns {
         let to = pacer.now();
-        let (next, _reached) = happen(rt, turn, pass, Event::Advance { to }, steps);
+        let (next, _reached) = happen(rt, turn, pass, Event::Advance { to, most: MOST }, steps);
         pass = next;
         pacer.pause(rt);
     }

@@ -10,6 +10,6 @@ loop-round-preserved g c =
     record {
       keeps = keeps_twice c.args.pass c.loop-round.pass c.happen-next.result.0 c.loop-round.invariant.keeps c.happen-next.ensures.adds.same;
       advances = advances_more g.V.Server.opening c.args.pass c.loop-round.pass c.happen-next.result.0 c.loop-round._round c.now-to.result (g.P.Pacer.moments c.args.pacer.now) (g.P.Pacer.moments c.loop-round.pacer)
-          (g.P.Pacer.moments c.now-to.new.self) (g.P.Pacer.moments c.pause.new.self) (entry (events.Advance c.now-to.result) c.happen-next.result.1) c.now-to.ensures.tick c.now-to.ensures.tells c.pause.ensures refl
+          (g.P.Pacer.moments c.now-to.new.self) (g.P.Pacer.moments c.pause.new.self) (entry (events.Advance c.now-to.result 10000) c.happen-next.result.1) c.now-to.ensures.tick c.now-to.ensures.tells c.pause.ensures refl
           c.happen-next.ensures.adds c.loop-round.invariant.advances;
     }

@@ -1,43 +1,29 @@
-use Rattle.std.proofs.Common.{ap, ◌∙◌, arith}
-use Rattle.pb_buses.specs.Rules.{is_record}
-use Rattle.pb_model.specs.Tick.{emitted_of}
-use Rattle.pb_model.specs.Kept.{Kept, stands_of}
-use Rattle.pb_core.specs.Answer.{advanced}
-use Rattle.pb_core.proofs.CoreLemmas.{tick_is, comes_more, comes_same, comes_all, emits_there}
+use Rattle.std.proofs.Common.{refl, sym, subst, arith}
+use Rattle.pb_core.specs.Core.{moment_of}
+use Rattle.pb_core.specs.Kept.{KeptCore, Agrees}
+use Rattle.pb_core.specs.Costs.{AdvanceCosts}
+use Rattle.pb_core.proofs.AdvanceLemmas.{reaches, reached_agrees, advance_costs}
+use Rattle.pb_core.proofs.CoreLemmas.{tick_is}
 use Rattle.pb_core.proofs.cores.Core.advance.Goals as goal
 
-pub loop-tick-preserved : goal.loop-tick-preserved
-loop-tick-preserved g c =
-    let inv = c.loop-tick.invariant in
-    let same = ap (λ (k : Kept). k.tick) c.has_room.ensures.same in
+pub returns : goal.returns
+returns g c =
+    let inside = c.self.inside in
+    let kept : KeptCore = record { config = inside.config; sim = inside.sim; sessions = inside.sessions; acquisitions = inside.acquisitions } in
+    let next : KeptCore = record { config = inside.config; sim = c.run-end.new.sim; sessions = inside.sessions; acquisitions = c.end_with.new.acquisitions } in
     record {
-      comes = λ core h.
-          comes_more c.has_room.new.self c.step.new.self core c.step.ensures.tick c.step.ensures.agrees
-          (comes_same c.loop-tick.self c.has_room.new.self core c.has_room.ensures.same c.has_room.ensures.agrees (inv.comes core h));
-      counted = omega (arith, inv.counted, inv.place, inv.from_now, c.step.ensures.counts, c.step.ensures.tick, same);
-      place = omega (arith, c.step.ensures.tick, same, inv.place);
-      from_now = omega (arith, inv.from_now);
-      most = omega (arith, c.loop-tick-test.true);
+      told = λ core h.
+          let agrees : Agrees kept core = subst (λ k. Agrees k core) (sym c.self.view_is) h in
+          reaches core c.args.to c.max-target.result c.args.most c.run-end.result c.run-end.new.sim c.args.steps.now c.run-end.new.steps _
+          (omega (arith, c.max-target.ensures, c.now.ensures.tick, tick_is kept core agrees)) (c.run-end.ensures.advanced (moment_of core) agrees.run);
+      core = λ core h.
+          let agrees : Agrees kept core = subst (λ k. Agrees k core) (sym c.self.view_is) h in
+          reached_agrees kept next core c.max-target.result c.args.most c.run-end.result c.args.steps.now c.run-end.new.steps _ c.run-end.new.acquisitions
+          refl refl c.run-end.ensures.reached (c.run-end.ensures.advanced (moment_of core) agrees.run)
+          (c.run-end.ensures.taken (moment_of core) core.acquisitions agrees.run agrees.acquisitions) c.end_with.ensures.ended agrees;
+      counts = λ core h.
+          let agrees : Agrees kept core = subst (λ k. Agrees k core) (sym c.self.view_is) h in
+          subst (λ k. AdvanceCosts core k next c.args.steps.now c.run-end.new.steps) c.self.view_is
+          (advance_costs kept next core c.max-target.result c.args.most c.run-end.result c.args.steps.now c.run-end.new.steps
+          c.run-end.ensures.reached c.run-end.ensures.known (c.run-end.ensures.advanced (moment_of core) agrees.run) agrees);
     }
-
-pub returns-clause-agrees : goal.returns-clause-agrees
-returns-clause-agrees g c = λ core h.
-    let inv = c.loop-tick.invariant in
-    let co = inv.comes core h in
-    comes_all c.loop-tick.self c.args.to core (omega (arith, inv.place, c.loop-tick-test.false)) co.agrees co.from_now
-    (omega (arith, inv.place, inv.most, tick_is c.args.self.now core h))
-
-pub returns-then-not-has_room-clause-agrees : goal.returns-then-not-has_room-clause-agrees
-returns-then-not-has_room-clause-agrees g c = λ core h.
-    let inv = c.loop-tick.invariant in
-    let same = ap (λ (k : Kept). k.tick) c.has_room.ensures.same in
-    let co = comes_same c.loop-tick.self c.has_room.new.self core c.has_room.ensures.same c.has_room.ensures.agrees (inv.comes core h) in (
-      record {
-        from_now = co.from_now;
-        before = omega (arith, same, inv.place, c.loop-tick-test.true);
-        emits =
-            emits_there c.has_room.new.self (advanced core c.has_room.new.self.box.tick) co.agrees
-            (ap (λ (k : Kept). is_record (emitted_of (stands_of k))) c.has_room.ensures.same ∙ c.has_room.ensures.lacks c.if-not-has_room.true);
-      },
-      co.agrees,
-    )

@@ -1,17 +1,25 @@
-use Rattle.std.proofs.Common.{sym, subst}
+use Rattle.std.proofs.Common.{◌≡◌, false, sym, subst, rules}
 use Rattle.pb_core.specs.declared.events.Event.{Event}
-use Rattle.pb_core.specs.declared.events.Answer.TheVariants as answers
 use Rattle.pb_core.specs.Kept.{Agrees}
 use Rattle.pb_core.specs.Answer.{IsTold, after_told}
-use Rattle.pb_core.proofs.ToldLemmas.{told_stopped, left_stopped}
+use Rattle.pb_core.specs.Costs.{Costs}
+use Rattle.pb_core.specs.Helpers.{is_advance}
+use Rattle.pb_core.proofs.EventLemmas.{other_costs}
 use Rattle.pb_core.proofs.cores.Core.apply.Goals as goal
 
 pub returns-in-Advance-clause-ok : goal.returns-in-Advance-clause-ok
 returns-in-Advance-clause-ok g c = λ core h.
-    subst (λ (event : Event). IsTold core event (answers.Reached c.now.result c.advance-why.result)) (sym c.in-Advance.is)
-    (told_stopped core c.advance-why.new.self c.in-Advance.to c.now.result c.advance-why.result (c.advance-why.ensures.agrees core h) c.now.ensures.now)
+    subst (λ (event : Event). IsTold core event c.advance.result) (sym c.in-Advance.is) (c.advance.ensures.told core h)
 
 pub returns-in-Advance-clause-core : goal.returns-in-Advance-clause-core
 returns-in-Advance-clause-core g c = λ core h.
-    subst (λ (event : Event). Agrees c.advance-why.new.self (after_told core event (answers.Reached c.now.result c.advance-why.result))) (sym c.in-Advance.is)
-    (left_stopped core c.advance-why.new.self c.in-Advance.to c.now.result c.advance-why.result (c.advance-why.ensures.agrees core h) c.now.ensures.now)
+    subst (λ (event : Event). Agrees c.advance.new.self (after_told core event c.advance.result)) (sym c.in-Advance.is) (c.advance.ensures.core core h)
+
+pub returns-in-Advance-clause-counts : goal.returns-in-Advance-clause-counts
+returns-in-Advance-clause-counts g c = λ core h.
+    subst (λ (event : Event). Costs event core c.args.self.now c.advance.new.self c.args.steps.now c.advance.new.steps) (sym c.in-Advance.is) (c.advance.ensures.counts core h)
+
+pub returns-in_default-clause-counts : goal.returns-in_default-clause-counts
+returns-in_default-clause-counts g c = λ core h.
+    let other : is_advance c.args.event.now ≡ false = search rules in
+    other_costs c.args.event.now core c.args.self.now c.stand.new.self c.args.steps.now c.stand.new.steps other c.stand.ensures.counts

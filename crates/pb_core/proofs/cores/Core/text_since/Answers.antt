@@ -9,7 +9,7 @@ use Rattle.pb_core.proofs.cores.Core.text_since.Goals as goal
 pub returns-clause-marks : goal.returns-clause-marks
 returns-clause-marks c = λ core reported h keeps.
     let inside = c.self.inside in
-    let kept : KeptCore = record { rows = inside.stimulus; config = inside.config; box = inside.state; sessions = inside.sessions; acquisitions = inside.acquisitions } in
+    let kept : KeptCore = record { config = inside.config; sim = inside.sim; sessions = inside.sessions; acquisitions = inside.acquisitions } in
     let agrees : Agrees kept core = subst (λ k. Agrees k core) (sym c.self.view_is) h in
     subst (λ shows. OnOk c.report.result (Keeps c.report.new.self (after_report reported (past_of core) shows c.args.group)))
     (shows_same kept core agrees) (c.report.ensures.marks (past_of core) reported (face_agrees kept core agrees) keeps)

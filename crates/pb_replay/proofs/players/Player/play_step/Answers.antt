@@ -2,7 +2,7 @@ use Rattle.std.proofs.Common.{refl}
 use Rattle.pb_replay.specs.declared.scripts.Act.TheVariants as acts
 use Rattle.pb_replay.specs.Script.{Timed, Command, CloseControl, OpenData, Take, CloseData, End}
 use Rattle.pb_replay.specs.Steps.{step_line}
-use Rattle.pb_replay.proofs.StepLemmas.{is_command, is_close_control, is_open_data, is_take, is_close_data, is_end, step_plays, step_leaves, step_feeds, step_waits, quiet_plays, step_session, step_span, span_text}
+use Rattle.pb_replay.proofs.StepLemmas.{is_command, is_close_control, is_open_data, is_take, is_close_data, is_end, step_plays, step_leaves, step_feeds, step_waits, step_went, step_silent, quiet_plays, step_session, step_span, span_text}
 use Rattle.pb_replay.proofs.players.Player.play_step.Goals as goal
 
 pub play_line-requires-clause-session : goal.play_line-requires-clause-session
@@ -153,3 +153,45 @@ returns-in-End-clause-fed g c = λ there waiting f.
     let same = Timed c.args.moment.tick End in
     let is = is_end c.args.bytes.now c.args.moment c.in-End.is in
     step_waits line same c.args.self.now.assemblers c.end.new.self.assemblers waiting is refl c.end.ensures.assemblers f
+
+pub returns-in-Command-clause-went : goal.returns-in-Command-clause-went
+returns-in-Command-clause-went g c = λ state h ready waiting f.
+    let line = step_line c.args.bytes.now c.args.moment in
+    let same = Timed c.args.moment.tick (Command c.in-Command.session c.text_at.result.now) in
+    let is = is_command c.args.bytes.now c.args.moment c.in-Command.session c.in-Command.span c.text_at.result.now c.in-Command.is c.text_at.ensures in
+    step_went line same state waiting 21 _ c.play_line.result _ _ is (c.play_line.ensures.went state h ready waiting f)
+
+pub returns-in-CloseControl-clause-went : goal.returns-in-CloseControl-clause-went
+returns-in-CloseControl-clause-went g c = λ state h ready waiting f.
+    let line = step_line c.args.bytes.now c.args.moment in
+    let same = Timed c.args.moment.tick (CloseControl c.in-CloseControl.session) in
+    let is = is_close_control c.args.bytes.now c.args.moment c.in-CloseControl.session c.in-CloseControl.is in
+    step_silent line same state waiting 21 c.args.self.now.pending c.close_control.new.self.pending (g.K.Sink.held c.args.output.now) c.close_control.result _ _ is c.close_control.ensures.pending (c.close_control.ensures.went state h ready waiting)
+
+pub returns-in-OpenData-clause-went : goal.returns-in-OpenData-clause-went
+returns-in-OpenData-clause-went g c = λ state h ready waiting f.
+    let line = step_line c.args.bytes.now c.args.moment in
+    let same = Timed c.args.moment.tick (OpenData c.in-OpenData.session c.text_at-in-OpenData.result.now) in
+    let is = is_open_data c.args.bytes.now c.args.moment c.in-OpenData.session c.in-OpenData.span c.text_at-in-OpenData.result.now c.in-OpenData.is c.text_at-in-OpenData.ensures in
+    step_went line same state waiting 21 _ c.open_data.result _ _ is (c.open_data.ensures.went state h ready waiting)
+
+pub returns-in-Take-clause-went : goal.returns-in-Take-clause-went
+returns-in-Take-clause-went g c = λ state h ready waiting f.
+    let line = step_line c.args.bytes.now c.args.moment in
+    let same = Timed c.args.moment.tick (Take c.in-Take.session) in
+    let is = is_take c.args.bytes.now c.args.moment c.in-Take.session c.in-Take.is in
+    step_went line same state waiting 21 _ c.take.result _ _ is (c.take.ensures.went state h ready waiting)
+
+pub returns-in-CloseData-clause-went : goal.returns-in-CloseData-clause-went
+returns-in-CloseData-clause-went g c = λ state h ready waiting f.
+    let line = step_line c.args.bytes.now c.args.moment in
+    let same = Timed c.args.moment.tick (CloseData c.in-CloseData.session) in
+    let is = is_close_data c.args.bytes.now c.args.moment c.in-CloseData.session c.in-CloseData.is in
+    step_silent line same state waiting 21 c.args.self.now.pending c.close_data.new.self.pending (g.K.Sink.held c.args.output.now) c.close_data.result _ _ is c.close_data.ensures.pending (c.close_data.ensures.went state h ready waiting)
+
+pub returns-in-End-clause-went : goal.returns-in-End-clause-went
+returns-in-End-clause-went g c = λ state h ready waiting f.
+    let line = step_line c.args.bytes.now c.args.moment in
+    let same = Timed c.args.moment.tick End in
+    let is = is_end c.args.bytes.now c.args.moment c.in-End.is in
+    step_went line same state waiting 21 _ c.end.result _ _ is (c.end.ensures.went state h ready waiting)

@@ -1,11 +1,12 @@
 use Rattle.std.proofs.Common.{sym, ◌∙◌}
 use Rattle.pb_core.specs.Answer.{after_all}
 use Rattle.pb_core.specs.Kept.{Agrees}
-use Rattle.pb_replay.specs.declared.played.Played.TheVariants as ends
+use Rattle.pb_replay.specs.declared.played.Told.TheVariants as ends
 use Rattle.pb_replay.specs.Output.{sections}
 use Rattle.pb_replay.specs.Pending.{PlaysOn}
 use Rattle.pb_replay.proofs.PendingLemmas.{plays_on_nothing}
 use Rattle.pb_replay.proofs.ReadersPlayed.{reads, reads_none}
+use Rattle.pb_replay.proofs.TallyLemmas.{calls_none}
 use Rattle.pb_replay.proofs.players.Player.take_all.Goals as goal
 
 pub returns-then-is_reading-clause-plays : goal.returns-then-is_reading-clause-plays
@@ -27,3 +28,6 @@ pub returns-else-is_reading-clause-core : goal.returns-else-is_reading-clause-co
 returns-else-is_reading-clause-core g c = λ there state h.
     reads_none (λ happened. Agrees c.args.self.now.core (after_all state happened))
     state c.args.session (sym (c.is_reading.ensures state h) ∙ c.if-is_reading.false) h
+
+pub returns-else-is_reading-clause-calls : goal.returns-else-is_reading-clause-calls
+returns-else-is_reading-clause-calls g c = λ state h. calls_none _
