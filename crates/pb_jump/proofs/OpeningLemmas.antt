@@ -85,6 +85,7 @@ opened_sound kind =
       calm = λ k below. absurd (omega arith);
       steady = λ k below. absurd (omega arith);
       narrow = λ none. record { words = refl; bus = refl };
+      loose = λ e. absurd (true_is_false e);
       deadline = λ a b. absurd (true_is_false a);
     }
   where

@@ -192,6 +192,7 @@ refreshed_sound tick first old new small r sound = by old.outdated refl
           calm = sound.calm;
           steady = sound.steady;
           narrow = sound.narrow;
+          loose = sound.loose;
           deadline = λ a b. due_later tick found sound.own small sound.calm due;
         })
 

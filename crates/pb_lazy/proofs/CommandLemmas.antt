@@ -12,11 +12,12 @@ use Rattle.pb_model.specs.declared.Block.{Block}
 use Rattle.pb_model.specs.declared.units.Unit.{Unit as AnyUnit}
 use Rattle.pb_model.specs.Units.{rules, place_of, armed, disarmed, with_words}
 use Rattle.pb_model.specs.declared.units.Unit.TheVariants as units
+use Rattle.pb_model.specs.Tick.{kind_of}
 use Rattle.pb_model.specs.Arming.{with_unit}
 use Rattle.pb_model.specs.Settings.{bit_place, with_input, with_field_value, with_value}
 use Rattle.pb_model.proofs.UnitLemmas.{value_stays}
 use Rattle.pb_lazy.specs.declared.lazies.Lazy.{Lazy}
-use Rattle.pb_lazy.specs.Lazy.{lately, unit_at, caught_up, awake, IsDue, IsSound}
+use Rattle.pb_lazy.specs.Lazy.{lately, unit_at, caught_up, awake, IsDue, IsLoose, IsSound}
 use Rattle.pb_lazy.specs.Commands.{set_lazy, unit_changed}
 use Rattle.pb_lazy.proofs.LazyLemmas.{lately_twice, kind_stays, unit_later, calm_from}
 use Rattle.pb_still.proofs.StillLemmas.{map-two}
@@ -113,6 +114,21 @@ set_stands slot raw tick lazy =
 none_left : (tick k : ℕ) → k < tick - tick → ⊥
 none_left tick k h = omega arith
 
+-- another unit of the same kind
+with_kind : (unit : AnyUnit) (lazy : Lazy) → IsLoose lazy.block lazy.kept → place_of unit ≡ kind_of lazy.block →
+    IsLoose (record { unit = unit; bits = lazy.block.bits; positions = lazy.block.positions }) lazy.kept
+with_kind unit lazy loose e =
+    record {
+      unwired =
+          record {
+            kind = ap (λ (k : ℕ). k == pcap.BLOCK) e ∙ loose.unwired.kind;
+            bits = loose.unwired.bits;
+            positions = loose.unwired.positions;
+          };
+      lines = loose.lines;
+      zeros = loose.zeros;
+    }
+
 pub awake_sound : (tick : ℕ) (first : Bool) (lazy : Lazy) → IsSound tick first lazy → IsSound tick first (awake tick lazy)
 awake_sound tick first lazy sound =
     record {
@@ -121,6 +137,7 @@ awake_sound tick first lazy sound =
       calm = λ k below. absurd (none_left tick k below);
       steady = sound.steady;
       narrow = λ h. sound.narrow (ap (λ (k : ℕ). k == pcap.BLOCK) (sym (kind_stays tick lazy)) ∙ h);
+      loose = λ e. with_kind (unit_at tick lazy) lazy (sound.loose e) (kind_stays tick lazy);
       deadline = λ a b. due_on (sound.deadline a b);
     }
   where
@@ -145,6 +162,7 @@ unit_sound change tick first lazy kind sound =
       calm = λ k below. absurd (none_left tick k below);
       steady = sound.steady;
       narrow = λ h. sound.narrow (ap (λ (k : ℕ). k == pcap.BLOCK) (sym (kind (unit_at tick lazy) ∙ kind_stays tick lazy)) ∙ h);
+      loose = λ e. with_kind (change (unit_at tick lazy)) lazy (sound.loose e) (kind (unit_at tick lazy) ∙ kind_stays tick lazy);
       deadline = λ a b. absurd (true_is_not_false b);
     }
   where
@@ -159,6 +177,7 @@ set_sound slot raw tick first lazy sound =
       calm = λ k below. absurd (none_left tick k below);
       steady = λ k below. absurd (omega arith);
       narrow = λ h. sound.narrow (ap (λ (k : ℕ). k == pcap.BLOCK) (sym (value_stays slot raw (caught_up tick lazy) ∙ kind_stays tick lazy)) ∙ h);
+      loose = λ e. absurd (true_is_not_false e);
       deadline = λ a b. absurd (true_is_not_false b);
     }
   where

@@ -175,5 +175,6 @@ module _ (bus : Bus) (tick n : ℕ) (lazy : Lazy) (h : IsUnmoved bus lazy) (soun
         calm = calm_up_to tick (tick + n) lazy sound.own (omega arith) known_due due;
         steady = sound.steady;
         narrow = sound.narrow;
+        loose = sound.loose;
         deadline = λ a b. record { from_now = due; within = known_due.within; calm = known_due.calm; ends = known_due.ends };
       }

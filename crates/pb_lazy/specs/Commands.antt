@@ -14,6 +14,7 @@ set_lazy slot raw tick lazy =
     record (settled tick (awake tick lazy)) {
       block = with_value slot raw (settled tick (awake tick lazy)).block;
       turn = tick;
+      wired = true;
       outdated = true;
     }
 

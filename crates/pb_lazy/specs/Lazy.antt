@@ -1,14 +1,16 @@
 -- A block that stays at a tick of its own: what it stands for at a tick, and what is known of it.
-use Rattle.std.specs.Prelude.{◌≡◌, ℕ, ◌+◌, ◌-◌, ◌<◌, ◌≤◌, ◌^◌, min, pos, Bool, false, map, replicate, Option, Some, None, if◌then◌else◌}
+use Rattle.std.specs.Prelude.{◌≡◌, ℕ, ◌+◌, ◌-◌, ◌<◌, ◌≤◌, ◌^◌, min, pos, Bool, true, false, map, replicate, Option, Some, None, if◌then◌else◌}
+use Rattle.std.specs.List.{AllByRecursion}
 use Rattle.pb_buses.specs.declared.Bus.{Bus}
 use Rattle.pb_buses.specs.declared.Inputs.{Inputs}
 use Rattle.pb_buses.specs.Rules.{after, IsCalm, AreCalm}
-use Rattle.pb_buses.specs.Buses.{selected}
+use Rattle.pb_buses.specs.Buses.{selected, position}
 use Rattle.pb_buses.specs.Delay.{BitInput, seen, shifted, latest}
 use Rattle.pb_model.specs.declared.Block.{Block}
 use Rattle.pb_model.specs.declared.units.Unit.{Unit as AnyUnit}
 use Rattle.pb_model.specs.Units.{rules}
 use Rattle.pb_model.specs.Tick.{inputs_of, seen_on, input_after, block_after, sees_all, opening_block}
+use Rattle.pb_names.specs.declared.bit_bus.TheConstants as bit_bus
 use Rattle.pb_names.specs.declared.position_bus.TheConstants as position_bus
 use Rattle.pb_still.specs.Coasting.{input_later}
 use Rattle.pb_model.specs.Parts.{IsNarrow}
@@ -53,14 +55,33 @@ pub record IsDue (tick : ℕ) (lazy : Lazy) : Type 0 where
   pub calm : AreCalm rules lazy.kept lazy.own (lazy.due - lazy.own) lazy.block.unit
   pub ends : lazy.due < 2 ^ 62 → ¬ (IsCalm rules lazy.kept lazy.due (unit_at lazy.due lazy))
 
+-- nothing stands at ZERO of either bus
+pub record HasZero (bus : Bus) : Type 0 where
+  pub bit : selected bus bit_bus.ZERO ≡ false
+  pub position : position bus position_bus.ZERO ≡ pos 0
+
+-- a block that isn't PCAP, whose inputs all select ZERO
+pub record IsUnwired (block : Block) : Type 0 where
+  pub kind : sees_all block ≡ false
+  pub bits : AllByRecursion (λ (input : BitInput). input.select ≡ bit_bus.ZERO) block.bits
+  pub positions : AllByRecursion (λ (select : ℕ). select ≡ position_bus.ZERO) block.positions
+
+-- and which saw so at the last tick: whatever happens on the buses, it sees the same
+pub record IsLoose (block : Block) (kept : Inputs) : Type 0 where
+  pub unwired : IsUnwired block
+  pub lines : AllByRecursion (λ (input : BitInput). latest input ≡ false) block.bits
+  pub zeros : kept.positions ≡ map (λ (select : ℕ). pos 0) block.positions
+
 -- What is known of it at a tick: the steps since its own tick were calm, up to its turn it sees the same of bit inputs
--- that select the same, and its deadline is known, but at the first tick and where it is outdated.
+-- that select the same, none of its inputs is wired where it says so, and its deadline is known, but at the first tick and
+-- where it is outdated.
 pub record IsSound (tick : ℕ) (first : Bool) (lazy : Lazy) : Type 0 where
   pub own : lazy.own ≤ tick
   pub at : lazy.at ≤ tick
   pub calm : AreCalm rules lazy.kept lazy.own (tick - lazy.own) lazy.block.unit
   pub steady : (k : ℕ) → lazy.at + k < lazy.turn → map (lately_seen k) lazy.block.bits ≡ lazy.kept.bits
   pub narrow : sees_all lazy.block ≡ false → IsNarrow lazy.kept
+  pub loose : lazy.wired ≡ false → IsLoose lazy.block lazy.kept
   pub deadline : first ≡ false → lazy.outdated ≡ false → IsDue tick lazy
 
 -- Nothing concerns the block on this bus, as far as its inputs go: they select what they had selected last, and the
@@ -91,7 +112,7 @@ nothing =
 -- as the box opens
 abbrev pub opening_lazy : ℕ → Lazy
 opening_lazy kind =
-    record { block = opening_block kind; own = 0; kept = nothing; due = 0; outdated = false; at = 0; turn = 0 }
+    record { block = opening_block kind; own = 0; kept = nothing; due = 0; outdated = false; at = 0; turn = 0; wired = true }
 
 -- with its bit inputs brought to this tick
 abbrev pub settled : ℕ → Lazy → Lazy
@@ -118,9 +139,9 @@ pub record IsTurn (bus : Bus) (tick : ℕ) (block : Block) (turn : ℕ) : Type 0
   pub ahead : tick < turn
   pub steady : (k : ℕ) → tick + k < turn → map (seen_on bus) (map (input_later bus k) block.bits) ≡ map (seen_on bus) block.bits
 
--- with its delay lines after this tick, and a turn
-abbrev pub pushed_lazy : Bus → ℕ → ℕ → Lazy → Lazy
-pushed_lazy bus tick turn lazy =
+-- with its delay lines after this tick, a turn, and whether it is wired
+abbrev pub pushed_lazy : Bus → ℕ → ℕ → Bool → Lazy → Lazy
+pushed_lazy bus tick turn wired lazy =
     record lazy {
       block = record {
         unit = lazy.block.unit;
@@ -129,11 +150,14 @@ pushed_lazy bus tick turn lazy =
       };
       at = tick + 1;
       turn = turn;
+      wired = wired;
     }
 
 pub record IsPushed (bus : Bus) (tick : ℕ) (old new : Lazy) : Type 0 where
-  pub left : new ≡ pushed_lazy bus tick new.turn old
+  pub left : new ≡ pushed_lazy bus tick new.turn new.wired old
   pub turns : IsTurn bus tick (settled tick old).block new.turn
+  pub unwired : new.wired ≡ false → IsUnwired old.block
+  pub zero : HasZero bus
 
 -- with its deadline known
 pub record IsKnown (old new : Lazy) : Type 0 where

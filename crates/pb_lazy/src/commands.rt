@@ -31,6 +31,7 @@ impl Lazy {
         self.settle(tick);
         self.block.set(slot, raw);
         self.turn = tick;
+        self.wired = true;
         self.outdated = true;
     }
 

@@ -5,14 +5,16 @@ ghost use Rattle.pb_buses.specs.Rules.{after, IsCalm, AreCalm, IsHorizon};
 ghost use Rattle.pb_buses.specs.Buses.{selected};
 ghost use Rattle.pb_buses.specs.Delay.{latest, seen};
 ghost use Rattle.pb_model.specs.Units.{rules};
-ghost use Rattle.pb_model.specs.Tick.{inputs_of, seen_on, input_after, emitted_by};
+ghost use Rattle.pb_model.specs.Tick.{inputs_of, sees_all, seen_on, input_after, emitted_by, or_before};
 ghost use Rattle.pb_model.specs.Parts.{IsNarrow};
 ghost use Rattle.pb_still.specs.Eventful.{IsIdle};
 ghost use Rattle.pb_still.specs.Coasting.{input_later};
-ghost use Rattle.pb_lazy.specs.Lazy.{lately, opening_lazy, nothing, caught_up, saw, unit_at, settled, awake, capped, IsQuiet, IsSound, IsTurn, IsPushed, IsMet, IsKnown, IsStepped, HasEnd};
+ghost use Rattle.pb_lazy.specs.Lazy.{lately, opening_lazy, nothing, caught_up, saw, unit_at, settled, awake, capped, IsLoose, IsUnmoved, IsQuiet, IsSound, IsTurn, IsPushed, IsMet, IsKnown, IsStepped, HasEnd};
 
+use crate::same::{are_as_seen, is_wired, nothing_stands_at_zero, select_the_seen, step_unit};
 use pb_buses::{Buses, Emit, Inputs, Machine, Mux};
 use pb_model::{Block, Unit};
+use pb_names::pcap;
 use pb_words::{OutOfMemory, Steps};
 use std::alloc::Global;
 use std::sync::ledger::Ledger;
@@ -37,6 +39,8 @@ pub struct Lazy {
     pub at: u64,
     /// Up to the tick before this one it sees the same of its bit inputs if they go on to select the same.
     pub turn: u64,
+    /// One of its inputs may select another entry than ZERO, or it is PCAP, which sees both buses.
+    pub wired: bool,
 }
 
 impl Lazy {
@@ -55,28 +59,51 @@ impl Lazy {
             outdated: false,
             at: 0,
             turn: 0,
+            wired: true,
         })
     }
 
-    /// Whether it is plain that nothing concerns the block at this tick: its deadline isn't due, its inputs select
-    /// what they selected last, and what it sees doesn't change.
+    /// Whether it is plain that nothing concerns the block at this tick, which isn't the first: its deadline isn't due, its
+    /// inputs select what they selected last, and what it sees doesn't change.
     pub fn is_quiet(&self, buses: &Buses, tick: u64) -> bool
+        requires { IsSound tick false self.now }
         ensures { result ≡ true → IsQuiet buses.now.bus tick self.now }
     {
-        !self.outdated
-            && tick < self.due
-            && tick < self.turn
-            && select_the_same(&self.block.bits, buses)
-            && self.sees_same_others(buses)
+        !self.outdated && tick < self.due && tick < self.turn && self.is_unmoved(buses)
     }
 
-    /// Whether it sees what it saw, apart from its bit inputs.
-    fn sees_same_others(&self, buses: &Buses) -> bool
-        ensures { IsTrue result ↔ (record (inputs_of buses.now.bus self.now.block) { bits = self.now.kept.bits } ≡ self.now.kept) }
+    /// Whether its inputs select what they selected last, and the rest of what it sees is as it was.
+    fn is_unmoved(&self, buses: &Buses) -> bool
+        requires narrow { sees_all self.now.block ≡ false → IsNarrow self.now.kept }
+        requires loose { self.now.wired ≡ false → IsLoose self.now.block self.now.kept }
+        ensures { result ≡ true → IsUnmoved buses.now.bus self.now }
     {
-        let mut seen = self.block.inputs(buses);
-        seen.bits = self.kept.bits;
-        seen.same(&self.kept)
+        if self.wired {
+            return select_the_same(&self.block.bits, buses) && self.sees_same_others(buses);
+        }
+        nothing_stands_at_zero(buses);
+        true
+    }
+
+    /// Whether it sees what it saw, apart from its bit inputs. No block but PCAP sees the buses themselves.
+    fn sees_same_others(&self, buses: &Buses) -> bool
+        requires { sees_all self.now.block ≡ false → IsNarrow self.now.kept }
+        ensures { result ≡ true → record (inputs_of buses.now.bus self.now.block) { bits = self.now.kept.bits } ≡ self.now.kept }
+    {
+        if !select_the_seen(&self.block.positions, &self.kept.positions, buses) {
+            return false;
+        }
+        if !self.is_capture() {
+            return true;
+        }
+        are_as_seen(&self.kept, buses)
+    }
+
+    /// PCAP alone sees the whole of both buses.
+    fn is_capture(&self) -> bool
+        ensures { result ≡ sees_all self.now.block }
+    {
+        self.block.unit.place() == pcap::BLOCK
     }
 
     /// What the block sees at this tick.
@@ -97,42 +124,53 @@ impl Lazy {
         ensures busy { result ≡ true → ¬ (IsIdle buses.now.bus tick (saw false self.now) (caught_up tick self.now)) }
         ensures idle { result ≡ false → IsIdle buses.now.bus tick (saw false self.now) (caught_up tick self.now) }
     {
+        if self.is_plain(buses, tick, false) {
+            return false;
+        }
         let inputs = self.look(buses, tick);
         !self.goes_on(&inputs, tick, false)
     }
 
-    /// One tick. A block that is idle makes no step.
+    /// One tick. A block that is idle makes no step. What it emits is put in `emit`, which stays as it is where that is nothing.
     pub fn meet<L: Ledger>(
         &mut self,
         buses: &Buses,
         tick: u64,
         first: bool,
         steps: &mut Steps<L>,
-    ) -> Emit
+        emit: &mut Emit,
+    )
         requires sound { IsSound tick first self.old }
         requires known { self.old.outdated ≡ false }
         requires tick { tick < 2 ^ 62 - 1 }
         ensures met { IsMet buses.now.bus tick self.old self.new }
-        ensures emits { result ≡ emitted_by buses.now.bus tick (caught_up tick self.old) }
+        ensures emits { emit.new ≡ or_before emit.old (emitted_by buses.now.bus tick (caught_up tick self.old)) }
         ensures counts { (IsIdle buses.now.bus tick (saw first self.old) (caught_up tick self.old) × (steps.new ≡ steps.old))
             ⊎ (¬ (IsIdle buses.now.bus tick (saw first self.old) (caught_up tick self.old)) × (steps.new ≤ steps.old + 3)) }
     {
         if self.is_plain(buses, tick, first) {
-            return Emit::Nothing;
+            return;
         }
         let inputs = self.look(buses, tick);
         self.push(buses, tick);
         if self.goes_on(&inputs, tick, first) {
-            return Emit::Nothing;
+            return;
         }
-        self.step(&inputs, tick, steps)
+        self.step(&inputs, tick, steps, emit);
     }
 
-    /// Whether it is plain that the block is idle.
+    /// Whether it is plain that the block is idle. PCAP has to look at both buses, so of it nothing is plain.
     fn is_plain(&self, buses: &Buses, tick: u64, first: bool) -> bool
+        requires { IsSound tick first self.now }
         ensures { result ≡ true → (first ≡ false) × IsQuiet buses.now.bus tick self.now }
     {
-        !first && self.is_quiet(buses, tick)
+        if first {
+            return false;
+        }
+        if self.is_capture() {
+            return false;
+        }
+        self.is_quiet(buses, tick)
     }
 
     /// Whether a block that sees this at the tick is idle.
@@ -148,10 +186,13 @@ impl Lazy {
         requires small { tick < 2 ^ 62 }
         ensures { IsPushed buses.now.bus tick self.old self.new }
     {
+        nothing_stands_at_zero(buses);
+        let wired = is_wired(&self.block);
         self.settle(tick);
         self.turn = next_turn(&self.block, buses, tick);
         self.block.push(buses);
         self.at = tick + 1;
+        self.wired = wired;
     }
 
     /// Brings the bit inputs to this tick.
@@ -165,20 +206,19 @@ impl Lazy {
     }
 
     /// A step under these inputs, and the next deadline.
-    fn step<L: Ledger>(&mut self, inputs: &Inputs, tick: u64, steps: &mut Steps<L>) -> Emit
+    fn step<L: Ledger>(&mut self, inputs: &Inputs, tick: u64, steps: &mut Steps<L>, emit: &mut Emit)
         requires own { self.old.own ≤ tick }
         requires calm { AreCalm rules self.old.kept self.old.own (tick - self.old.own) self.old.block.unit }
         requires tick { tick < 2 ^ 62 - 1 }
         ensures stepped { IsStepped inputs.now tick self.old self.new }
-        ensures emits { result ≡ rules.emitted (unit_at tick self.old) inputs.now tick }
+        ensures emits { emit.new ≡ or_before emit.old (rules.emitted (unit_at tick self.old) inputs.now tick) }
         ensures counts { steps.new ≤ steps.old + 3 }
     {
         self.catch_up(tick, steps);
-        let emit = self.block.unit.step(inputs, tick, steps);
+        step_unit(&mut self.block.unit, inputs, tick, steps, emit);
         self.own = tick + 1;
         self.kept = *inputs;
         self.look_ahead(steps);
-        emit
     }
 
     /// Brings the unit to this tick.

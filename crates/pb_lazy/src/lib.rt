@@ -7,6 +7,7 @@ mod commands;
 mod laws;
 mod lazies;
 mod lists;
+mod same;
 
 pub use laws::commands_act_on_the_block_at_the_tick;
 pub use lazies::Lazy;

@@ -1,9 +1,8 @@
-ghost use Rattle.std.specs.Prelude.{◌≡◌, ℕ, ◌+◌, ◌-◌, ◌*◌, ◌^◌, ◌<◌, ◌≤◌, ◌⊎◌, true, false, count_by, if◌then◌else◌};
+ghost use Rattle.std.specs.Prelude.{◌≡◌, ℕ, ◌+◌, ◌-◌, ◌^◌, ◌<◌, ◌≤◌, true, false, count_by, if◌then◌else◌};
 ghost use Rattle.std.specs.List.{AllByRecursion};
-ghost use Rattle.pb_model.specs.Tick.{emitted_by, or_before};
 ghost use Rattle.pb_still.specs.Eventful.{IsIdle};
 ghost use Rattle.pb_lazy.specs.declared.lazies.Lazy.{Lazy};
-ghost use Rattle.pb_lazy.specs.Lazy.{caught_up, saw, IsSound, IsQuiet, IsMet};
+ghost use Rattle.pb_lazy.specs.Lazy.{caught_up, saw, IsSound, IsQuiet};
 ghost use Rattle.pb_lazy.specs.Meeting.{MetSoFar, IsRefreshed, AreRefreshed, IsOneBusy};
 
 use crate::lazies::Lazy;
@@ -11,8 +10,9 @@ use pb_buses::{Buses, Emit};
 use pb_words::Steps;
 use std::sync::ledger::Ledger;
 
-/// Whether it is plain that nothing concerns any of the blocks at this tick.
+/// Whether it is plain that nothing concerns any of the blocks at this tick, which isn't the first.
 pub fn are_quiet(lazies: &[Lazy], buses: &Buses, tick: u64) -> bool
+    requires { AllByRecursion (IsSound tick false) lazies.now }
     ensures { result ≡ true → AllByRecursion (IsQuiet buses.now.bus tick) lazies.now }
 {
     for lazy in lazies {
@@ -100,30 +100,7 @@ pub fn meet_all<L: Ledger>(
 {
     let mut emit = Emit::Nothing;
     for lazy in lazies.iter_mut() {
-        meet_one(lazy, buses, tick, first, steps, &mut emit);
+        lazy.meet(buses, tick, first, steps, &mut emit);
     }
     emit
-}
-
-/// One block makes the tick. What it emits is put in `emit`, which stays as it is where that is nothing.
-fn meet_one<L: Ledger>(
-    lazy: &mut Lazy,
-    buses: &Buses,
-    tick: u64,
-    first: bool,
-    steps: &mut Steps<L>,
-    emit: &mut Emit,
-)
-    requires sound { IsSound tick first lazy.old }
-    requires known { lazy.old.outdated ≡ false }
-    requires tick { tick < 2 ^ 62 - 1 }
-    ensures met { IsMet buses.now.bus tick lazy.old lazy.new }
-    ensures emits { emit.new ≡ or_before emit.old (emitted_by buses.now.bus tick (caught_up tick lazy.old)) }
-    ensures counts { (IsIdle buses.now.bus tick (saw first lazy.old) (caught_up tick lazy.old) × (steps.new ≡ steps.old))
-        ⊎ (¬ (IsIdle buses.now.bus tick (saw first lazy.old) (caught_up tick lazy.old)) × (steps.new ≤ steps.old + 3)) }
-{
-    match lazy.meet(buses, tick, first, steps) {
-        Emit::Nothing => {}
-        emitted => *emit = emitted,
-    }
 }

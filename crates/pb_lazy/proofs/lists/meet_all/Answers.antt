@@ -15,8 +15,8 @@ loop-lazy-init g c =
       met = begin_met c.args.buses.now.bus c.args.tick c.args.first c.args.lazies.now.items c.args.steps.now;
     }
 
-pub meet_one-requires-clause-sound : goal.meet_one-requires-clause-sound
-meet_one-requires-clause-sound g c =
+pub meet-requires-clause-sound : goal.meet-requires-clause-sound
+meet-requires-clause-sound g c =
     let inv = c.loop-lazy.invariant in
     let olds = c.args.lazies.now.items in
     let i = c.loop-lazy.lazy-index in
@@ -27,8 +27,8 @@ meet_one-requires-clause-sound g c =
     subst (IsSound c.args.tick c.args.first) c.lazy-item.is
     (all_here (IsSound c.args.tick c.args.first) olds i c.lazy-item.result more same c.requires.sound)
 
-pub meet_one-requires-clause-known : goal.meet_one-requires-clause-known
-meet_one-requires-clause-known g c =
+pub meet-requires-clause-known : goal.meet-requires-clause-known
+meet-requires-clause-known g c =
     let inv = c.loop-lazy.invariant in
     let olds = c.args.lazies.now.items in
     let i = c.loop-lazy.lazy-index in
@@ -50,17 +50,17 @@ loop-lazy-preserved g c =
     let more : i < length olds = subst (λ l. i < length l) c.deref_mut-lazy-items.ensures.value c.loop-lazy-test.true in
     let back = sym c.lazy-item.is in
     record {
-      done = inv.done ++ c.meet_one.new.lazy ∷ [];
+      done = inv.done ++ c.meet.new.self ∷ [];
       items =
           next_items bus tick first olds c.loop-lazy.lazy-items i c.loop-lazy.emit c.args.steps.now c.loop-lazy.steps
-          inv.done inv.items inv.met c.lazy-item.result c.meet_one.new.lazy more;
+          inv.done inv.items inv.met c.lazy-item.result c.meet.new.self more;
       met =
           next_met bus tick first olds c.loop-lazy.lazy-items i c.loop-lazy.emit c.args.steps.now c.loop-lazy.steps
-          inv.done inv.items inv.met c.lazy-item.result c.meet_one.new.lazy c.meet_one.new.emit c.meet_one.new.steps more c.lazy-item.is
-          (subst (λ (lazy : Lazy). IsMet bus tick lazy c.meet_one.new.lazy) back c.meet_one.ensures.met)
-          (subst (λ (lazy : Lazy). c.meet_one.new.emit ≡ or_before c.loop-lazy.emit (emitted_by bus tick (caught_up tick lazy))) back c.meet_one.ensures.emits)
-          (subst (λ (lazy : Lazy). (IsIdle bus tick (saw first lazy) (caught_up tick lazy) × (c.meet_one.new.steps ≡ c.loop-lazy.steps))
-          ⊎ (¬ (IsIdle bus tick (saw first lazy) (caught_up tick lazy)) × (c.meet_one.new.steps ≤ c.loop-lazy.steps + 3))) back c.meet_one.ensures.counts);
+          inv.done inv.items inv.met c.lazy-item.result c.meet.new.self c.meet.new.emit c.meet.new.steps more c.lazy-item.is
+          (subst (λ (lazy : Lazy). IsMet bus tick lazy c.meet.new.self) back c.meet.ensures.met)
+          (subst (λ (lazy : Lazy). c.meet.new.emit ≡ or_before c.loop-lazy.emit (emitted_by bus tick (caught_up tick lazy))) back c.meet.ensures.emits)
+          (subst (λ (lazy : Lazy). (IsIdle bus tick (saw first lazy) (caught_up tick lazy) × (c.meet.new.steps ≡ c.loop-lazy.steps))
+          ⊎ (¬ (IsIdle bus tick (saw first lazy) (caught_up tick lazy)) × (c.meet.new.steps ≤ c.loop-lazy.steps + 3))) back c.meet.ensures.counts);
     }
 
 pub returns : goal.returns

@@ -2,7 +2,7 @@ use Rattle.std.proofs.Common.{◌≡◌, ◌-◌, ◌<◌, ◌≤◌, Bool, fals
 use Rattle.std.proofs.lemmas.Bool.{false≢true}
 use Rattle.pb_buses.specs.Rules.{AreCalm}
 use Rattle.pb_model.specs.Units.{rules}
-use Rattle.pb_model.specs.Tick.{inputs_of}
+use Rattle.pb_model.specs.Tick.{inputs_of, or_before}
 use Rattle.pb_still.specs.Eventful.{IsIdle}
 use Rattle.pb_lazy.specs.declared.lazies.Lazy.{Lazy}
 use Rattle.pb_lazy.specs.Lazy.{saw, caught_up, IsSound}
@@ -19,7 +19,7 @@ returns-then-is_plain g c =
     let m = quiet_is_met bus tick old sound q.1 in
     record {
       met = m.0;
-      emits = sym m.1.calm.quiet;
+      emits = ap (or_before c.args.emit.now) (sym m.1.calm.quiet);
       counts = inl (subst (λ (b : Bool). IsIdle bus tick (saw b old) (caught_up tick old)) (sym q.0) m.1, refl);
     }
 
@@ -40,7 +40,7 @@ returns-then-goes_on g c =
     let idle = is_idle bus tick old sound c.requires.known before same in
     record {
       met = idle_met bus tick old mid sound c.requires.known before same c.push.ensures;
-      emits = sym idle.calm.quiet;
+      emits = ap (or_before c.args.emit.now) (sym idle.calm.quiet);
       counts = inl (subst (λ (b : Bool). IsIdle bus tick (saw b old) (caught_up tick old)) (sym all.0) idle, refl);
     }
 
@@ -65,7 +65,7 @@ returns g c =
       met = step_met bus tick c.args.first old mid new c.look-inputs.result c.requires.sound c.push.ensures c.look-inputs.ensures c.step.ensures.stepped;
       emits =
           step_emits bus tick c.args.first old mid new c.look-inputs.result c.requires.sound c.push.ensures c.look-inputs.ensures c.step.ensures.stepped
-          c.step.result c.step.ensures.emits;
+          c.args.emit.now c.step.new.emit c.step.ensures.emits;
       counts =
           inr (
             not_idle bus tick c.args.first old c.requires.sound c.requires.known (omega (arith, c.requires.tick)) (λ all.

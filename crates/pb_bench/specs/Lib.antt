@@ -1,0 +1,4 @@
+pub mod Asks
+pub mod Sections
+pub mod Tally
+pub mod Keeping

@@ -1,0 +1,4 @@
+pub mod ServeLemmas
+pub mod TextLemmas
+pub mod WorkedLemmas
+pub mod WordLemmas
