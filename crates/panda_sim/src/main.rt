@@ -1,6 +1,9 @@
-//! `panda_sim replay`: runs a script of commands, stimulus and data sessions from bytes to bytes.
+//! `panda_sim replay` runs a script of commands, stimulus and data sessions from bytes to bytes. `panda_sim make` writes a script, and
+//! `panda_sim bench` tells of the output of that script.
 #![tactic(auto)]
 
+mod benching;
+mod making;
 mod running;
 mod statuses;
 #[cfg(test)]
@@ -85,7 +88,7 @@ fn code(status: Status) -> u8 {
 fn report(rt: &impl Eprint, status: Status) {
     let text = match status {
         Status::Ok => return,
-        Status::Usage => "usage: panda_sim replay",
+        Status::Usage => "usage: panda_sim replay | make N SEED | bench N SEED",
         Status::Script { line, cause } => {
             let _ = rt.eprintln(ScriptFault::Line { line, cause });
             return;
