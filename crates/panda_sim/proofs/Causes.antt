@@ -46,6 +46,8 @@ ends_on_no_script statuses.ReadFault bytes given left held now h known e none = 
 ends_on_no_script statuses.WriteFault bytes given left held now h known e none = let s = replays_told bytes given left _ e h in none s.0 s.1
 ends_on_no_script statuses.OutOfMemory bytes given left held now h known e none = tt
 ends_on_no_script (statuses.EventLimit tick) bytes given left held now h known e none = let s = replays_told bytes given left _ e h in none s.0 s.1
+ends_on_no_script statuses.PortFault bytes given left held now h known e none = h
+ends_on_no_script statuses.SpawnFault bytes given left held now h known e none = h
 
 -- a script where nothing fails
 pub ends_on_script : (status : Status) (bytes : List ℕ) (lines : List Line) (given left held now : Option (List ℕ)) (in_old in_new out_old out_new : ℕ) → Leaves status given left held now → status ≢ statuses.Usage → (status ≡ statuses.ReadFault → Rose in_old in_new) → (status ≡ statuses.WriteFault → Rose out_old out_new) → given ≡ Some bytes → IsScript bytes lines → ¬ (Rose in_old in_new) → ¬ (Rose out_old out_new) → EndsOnScript status
@@ -56,6 +58,8 @@ ends_on_script statuses.ReadFault bytes lines given left held now a b c d h know
 ends_on_script statuses.WriteFault bytes lines given left held now a b c d h known r w e s i o = o (w refl)
 ends_on_script statuses.OutOfMemory bytes lines given left held now a b c d h known r w e s i o = tt
 ends_on_script (statuses.EventLimit tick) bytes lines given left held now a b c d h known r w e s i o = tt
+ends_on_script statuses.PortFault bytes lines given left held now a b c d h known r w e s i o = h
+ends_on_script statuses.SpawnFault bytes lines given left held now a b c d h known r w e s i o = h
 
 -- the first fault of what was read is that of all
 fault_told : (line : ℕ) (cause : Cause) (bytes : List ℕ) (given left : Option (List ℕ)) → given ≡ Some bytes → ReadsNoScript line cause given left → first_fault bytes ≡ Some (line, cause)

@@ -69,3 +69,5 @@ makes_script statuses.ReadFault Nothing This ends known h = absurd ends
 makes_script statuses.WriteFault Nothing This ends known h = h
 makes_script statuses.OutOfMemory Nothing This ends known h = inr h
 makes_script (statuses.EventLimit tick) Nothing This ends known h = h
+makes_script statuses.PortFault Nothing This ends known h = ends
+makes_script statuses.SpawnFault Nothing This ends known h = ends

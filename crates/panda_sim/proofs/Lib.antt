@@ -5,3 +5,4 @@ pub mod MadeScripts
 pub mod OneWord
 pub mod TakenLemmas
 pub mod Replaying
+pub mod DoorLemmas

@@ -39,6 +39,8 @@ module _ (bytes : List ℕ) (given left : Option (List ℕ)) (taken : Takes give
   leaves_of statuses.OutOfMemory held now (inl h) = inl h
   leaves_of statuses.OutOfMemory held now (inr h) = inr (replays _ h)
   leaves_of (statuses.EventLimit tick) held now h = replays _ h
+  leaves_of statuses.PortFault held now h = h
+  leaves_of statuses.SpawnFault held now h = h
 
   pub makes_of : (status : Status) (Nothing : Type 0) (Holds : List Line → Type 0) → Makes status Nothing (HasLines bytes Holds) → Makes status Nothing (Replays given left Holds)
   makes_of statuses.Ok Nothing Holds h = replays Holds h
@@ -49,6 +51,8 @@ module _ (bytes : List ℕ) (given left : Option (List ℕ)) (taken : Takes give
   makes_of statuses.OutOfMemory Nothing Holds (inl h) = inl h
   makes_of statuses.OutOfMemory Nothing Holds (inr h) = inr (replays Holds h)
   makes_of (statuses.EventLimit tick) Nothing Holds h = replays Holds h
+  makes_of statuses.PortFault Nothing Holds h = h
+  makes_of statuses.SpawnFault Nothing Holds h = h
 
 -- What playing a script leaves and costs.
 

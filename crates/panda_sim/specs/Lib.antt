@@ -1,3 +1,4 @@
 pub mod Made
 pub mod Run
 pub mod Replayed
+pub mod Serve

@@ -27,6 +27,8 @@ Replayed statuses.ReadFault bytes held now = ⊥
 Replayed statuses.WriteFault bytes held now = HasLines bytes (PlaysSome held now)
 Replayed statuses.OutOfMemory bytes held now = (now ≡ held) ⊎ HasLines bytes (PlaysSome held now)
 Replayed (statuses.EventLimit tick) bytes held now = HasLines bytes (PlaysToLimit tick held now)
+Replayed statuses.PortFault bytes held now = ⊥
+Replayed statuses.SpawnFault bytes held now = ⊥
 
 -- how a run ends, by how playing its script does
 abbrev pub status_of : Played → Status
@@ -44,3 +46,5 @@ EndsUnread statuses.ReadFault = ⊥
 EndsUnread statuses.WriteFault = Unit {0}
 EndsUnread statuses.OutOfMemory = Unit {0}
 EndsUnread (statuses.EventLimit tick) = Unit {0}
+EndsUnread statuses.PortFault = ⊥
+EndsUnread statuses.SpawnFault = ⊥

@@ -67,6 +67,9 @@ Leaves statuses.WriteFault given left held now = Replays given left (PlaysSome h
 Leaves statuses.OutOfMemory given left held now = (now ≡ held) ⊎ Replays given left (PlaysSome held now)
 -- the whole input was a script, and its output up to the limit was written
 Leaves (statuses.EventLimit tick) given left held now = Replays given left (PlaysToLimit tick held now)
+-- these are of the server alone
+Leaves statuses.PortFault given left held now = ⊥
+Leaves statuses.SpawnFault given left held now = ⊥
 
 -- what a run makes: nothing where no script was read, and else this
 abbrev pub Makes : Status → Type 0 → Type 0 → Type 0
@@ -77,6 +80,8 @@ Makes statuses.ReadFault Nothing This = Nothing
 Makes statuses.WriteFault Nothing This = This
 Makes statuses.OutOfMemory Nothing This = Nothing ⊎ This
 Makes (statuses.EventLimit tick) Nothing This = This
+Makes statuses.PortFault Nothing This = ⊥
+Makes statuses.SpawnFault Nothing This = ⊥
 
 -- how a run may end where the input is no script
 abbrev pub EndsOnNoScript : Status → Type 0
@@ -87,6 +92,8 @@ EndsOnNoScript statuses.ReadFault = Unit {0}
 EndsOnNoScript statuses.WriteFault = ⊥
 EndsOnNoScript statuses.OutOfMemory = Unit {0}
 EndsOnNoScript (statuses.EventLimit tick) = ⊥
+EndsOnNoScript statuses.PortFault = ⊥
+EndsOnNoScript statuses.SpawnFault = ⊥
 
 -- how a run may end where the input is a script and nothing fails
 abbrev pub EndsOnScript : Status → Type 0
@@ -97,6 +104,8 @@ EndsOnScript statuses.ReadFault = ⊥
 EndsOnScript statuses.WriteFault = ⊥
 EndsOnScript statuses.OutOfMemory = Unit {0}
 EndsOnScript (statuses.EventLimit tick) = Unit {0}
+EndsOnScript statuses.PortFault = ⊥
+EndsOnScript statuses.SpawnFault = ⊥
 
 -- What is taken of the input is at most 16 MiB and one piece of 16 KiB: the last piece is read while at
 -- most 16 MiB are held.

@@ -1,30 +1,40 @@
 //! `panda_sim replay` runs a script of commands, stimulus and data sessions from bytes to bytes. `panda_sim make` writes a script, and
-//! `panda_sim bench` tells of the output of that script.
+//! `panda_sim bench` tells of the output of that script. `panda_sim serve` opens the two network ports.
 #![tactic(auto)]
 
 mod benching;
 mod making;
 mod running;
+mod serving;
+#[cfg(test)]
+mod serving_tests;
 mod statuses;
 #[cfg(test)]
 mod tests;
 
 ghost use Rattle.std.specs.Prelude.{◌≡◌, ◌<◌};
 
-use pb_ports::{ReaderSource, WriterSink};
+use pb_cli::starts_server;
+use pb_ports::{ClockPacer, ReaderSource, TcpListen, ThreadSpawner, WriterSink};
 use pb_replay::ScriptFault;
 use pb_words::{Steps, Text};
 use running::run;
+use serving::serve;
 use statuses::Status;
 use std::alloc::Global;
 use std::marker::Brand;
+use std::net::{Net, TcpListener, TcpStream};
 use std::process::ExitCode;
 use std::rt::Env;
+use std::sync::Wait;
 use std::sync::ledger::{Blank, Ledger};
+use std::thread::Threads;
+use std::time::Clock;
 use std::{env, io};
 
 fn main(rt: HostRuntime) -> ExitCode {
     let status = match words(&rt) {
+        Ok(words) if starts_server(words.as_slice()) => serve_ports(rt, words.as_slice()),
         Ok(words) => replay::<Brand, HostRuntime>(&rt, words.as_slice(), Blank::new(1)),
         Err(status) => status,
     };
@@ -71,6 +81,33 @@ fn replay<L: Ledger, R: Input + Print + AllocGlobal>(rt: &R, words: &[Text], bla
     run(rt.alloc(), words, &mut input, &mut output, &mut steps)
 }
 
+/// Serves the ports of this machine, with the stimulus on standard input.
+fn serve_ports<
+    R: Input
+        + AllocGlobal
+        + Clock
+        + Net<Listener = TcpListener, Stream = TcpStream>
+        + Threads
+        + Wait
+        + Copy
+        + Send
+        + 'static,
+>(rt: R, words: &[Text]) -> Status {
+    let mut stimulus = ReaderSource::new(rt.reader());
+    let mut net = TcpListen::new(rt, rt.alloc());
+    let mut spawner = ThreadSpawner::new(rt.alloc());
+    let pacer = ClockPacer::new(rt);
+    serve(
+        rt,
+        rt.alloc(),
+        words,
+        &mut stimulus,
+        &mut net,
+        pacer,
+        &mut spawner,
+    )
+}
+
 /// The exit status of the program.
 fn code(status: Status) -> u8 {
     match status {
@@ -81,6 +118,8 @@ fn code(status: Status) -> u8 {
         Status::WriteFault => 4,
         Status::OutOfMemory => 5,
         Status::EventLimit { .. } => 6,
+        Status::PortFault => 7,
+        Status::SpawnFault => 8,
     }
 }
 
@@ -88,7 +127,8 @@ fn code(status: Status) -> u8 {
 fn report(rt: &impl Eprint, status: Status) {
     let text = match status {
         Status::Ok => return,
-        Status::Usage => "usage: panda_sim replay | make N SEED | bench N SEED",
+        Status::Usage =>
+            "usage: panda_sim replay | make N SEED | bench N SEED | serve [--control PORT] [--data PORT]",
         Status::Script { line, cause } => {
             let _ = rt.eprintln(ScriptFault::Line { line, cause });
             return;
@@ -96,6 +136,8 @@ fn report(rt: &impl Eprint, status: Status) {
         Status::ReadFault => "read fault",
         Status::WriteFault => "write fault",
         Status::OutOfMemory => "out of memory",
+        Status::PortFault => "port fault",
+        Status::SpawnFault => "spawn fault",
         Status::EventLimit { tick } => {
             let _ = eprintln!(rt; "event limit at tick {tick}");
             return;

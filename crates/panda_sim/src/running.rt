@@ -133,7 +133,7 @@ const LONGEST: usize = 16_777_216;
 
 /// Why the input isn't read to its end.
 #[derive(Clone, Copy, Debug, PartialEq, Eq)]
-enum ReadError {
+pub(crate) enum ReadError {
     /// The input failed.
     Fault,
     /// Memory ran out.
@@ -149,8 +149,8 @@ fn is_replay(words: &[Text]) -> bool
     }
 }
 
-/// Reads the input to its end, or until it is too long for a script.
-fn read_all<S: Source>(alloc: Global, input: &mut S) -> Result<Text, ReadError>
+/// Reads the input to its end, or until it is too long for a script or a stimulus.
+pub(crate) fn read_all<S: Source>(alloc: Global, input: &mut S) -> Result<Text, ReadError>
     ensures taken { IfOk result (λ text. Takes (S.left input.old) text (S.left input.new)) }
     ensures enough { IfOk result (λ text. IsSpent (S.left input.new) ⊎ (16777216 < length text)) }
     ensures bounded { TakesUpToOnePieceMore (S.left input.old) (S.left input.new) }

@@ -7,7 +7,7 @@ pub enum Status {
     Ok,
     /// The words are none that the program knows; nothing was read or written.
     Usage,
-    /// The input is no script: this line, counted from 1, is the first that breaks a rule, and this is the first rule that
+    /// The input is no script, or no stimulus: this line, counted from 1, is the first that breaks a rule, and this is the first rule that
     /// it breaks. Nothing was written.
     Script { line: u64, cause: Cause },
     /// The input failed; nothing was written.
@@ -18,4 +18,8 @@ pub enum Status {
     OutOfMemory,
     /// This tick is the limit of the script: its 10,000,000th eventful one. The output has what the lines before it give.
     EventLimit { tick: u64 },
+    /// A port can't be opened.
+    PortFault,
+    /// A thread can't be started.
+    SpawnFault,
 }
