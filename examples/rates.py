@@ -62,7 +62,7 @@ def idle_share(process):
 
 
 def fill(control):
-    """Captures until the store is full."""
+    """Captures until the store is full, and then stops the clock, so that the box has nothing to do."""
     file = control.makefile("rwb")
 
     def ask(line):
@@ -76,6 +76,8 @@ def fill(control):
         assert answered == b"OK\n", (line, answered)
     while b"Busy" in ask(b"*PCAP.STATUS?"):
         time.sleep(0.1)
+    assert ask(b"CLOCK1.ENABLE=ZERO") == b"OK\n"
+    time.sleep(0.5)
 
 
 def measure(readers):
